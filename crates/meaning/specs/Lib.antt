@@ -20,6 +20,9 @@ pub mod Recovery
 pub mod Feeding
 pub mod Questions
 pub mod Calls
--- the runs with known outcome
+-- what is proved of them: the third demand, the bounds, identities, the known runs
+pub mod Demand3
+pub mod Bounds
+pub mod Identities
 pub mod KnownTables
 pub mod KnownRuns

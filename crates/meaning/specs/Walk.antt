@@ -74,3 +74,16 @@ plan t room class st c = walkFrom maxChain t room class st 0 c
 unfoldable pub ends : Walk → Bool
 ends (shift sh) = shifts sh
 ends (reduce k to below beside) = either (ends below) (ends beside)
+
+-- The reductions of a walk, dead ends too, and the chains that end in it.
+unfoldable pub size : Walk → ℕ
+size (shift sh) = 0
+size (reduce k to below beside) = 1 + size below + size beside
+
+abbrev pub one : Maybe ℕ → ℕ
+one nothing = 0
+one (just to) = 1
+
+unfoldable pub chains : Walk → ℕ
+chains (shift sh) = one sh
+chains (reduce k to below beside) = chains below + chains beside
