@@ -9,11 +9,11 @@ use native.Mathlib.Omega.{arith}
 use Rattle.meaning.specs.Basics.{if_then_else_, either, isNil, AllOf}
 use Rattle.meaning.specs.Limits.{maxReadings, maxWalked}
 use Rattle.meaning.specs.TableFile.{Table}
-use Rattle.meaning.specs.Readings.{Entry, Reading, states, heldBy}
+use Rattle.meaning.specs.Readings.{Entry, Reading, states}
 use Rattle.meaning.specs.Walk.{Walk, Walked, refused, walked, plan, ends}
 use Rattle.meaning.specs.Applying.{Applied, apply, nothingApplied, oneResult, joined, unplanned}
 use Rattle.meaning.specs.Outcome.{Fed, refusal}
-use Rattle.meaning.specs.Recovery.{Stage, stopped, came, thenStage, ifPlanned, errorTerm, recoverOne, recoverAll, longerTop, stays, takeTerm, termTaken, noneRecovered, afterRecovery, recover}
+use Rattle.meaning.specs.Recovery.{Stage, stopped, came, thenStage, ifPlanned, errorTerm, isHeld, recoverOne, recoverAll, longerTop, stays, takeTerm, termTaken, noneRecovered, afterRecovery, recover}
 use Rattle.meaning.specs.Feeding.{Planned, noPlan, plans, addReading, addPlan, planAll, applyAll, someTook, noneTook, settles, mustRecover, settle, firstOf, first, finish, feed}
 use Rattle.meaning.specs.Bounds.{Standing, Bounded}
 use Rattle.meaning.specs.declared.Term.{Term}
@@ -122,7 +122,7 @@ one-within : (t : Table) (held : List Reading) (m : ℕ) (rest whole : List Entr
 unfolding recoverOne
 one-within t held m [] whole p n w c = record { few = 0; count = omega arith; fits = λ g. g; out = nothing-within n 0 0; walked-few = omega arith }
 one-within t held m (e ∷ rest) whole p n w c =
-    if-one n w c (suc (length rest)) (heldBy held (e .born)) (came (nothingApplied n) w c) (ifPlanned (plan t 16 1 (states (e ∷ rest)) c) found pops)
+    if-one n w c (suc (length rest)) (isHeld held e) (came (nothingApplied n) w c) (ifPlanned (plan t 16 1 (states (e ∷ rest)) c) found pops)
     (record { few = 0; count = omega arith; fits = λ g. g; out = nothing-within n 0 0; walked-few = omega arith })
     (at (plan t 16 1 (states (e ∷ rest)) c) refl (λ k c′. one-within t held m rest whole (p + 1) n (w + k) c′))
   where

@@ -121,6 +121,6 @@ module _ (t : Table) (x : Term) where
 
   pub tree-runs : (left : ℕ) (r : Reading)
       → got t x (treeFrom left t (x .class) (states (r .stack))) r ≡ each (λ (ch : Chain). run t x ch r) (chainsFrom left t (x .class) (states (r .stack)))
-  unfolding chainsFrom chainsBy
+  unfolding chainsFrom
   tree-runs zero r = rules-runs (λ s. shift nothing) (λ s. []) (λ r′. refl) r 0 (recordAt t (x .class) (states (r .stack)) .rules) refl
   tree-runs (suc left) r = rules-runs (λ s. treeFrom left t (x .class) s) (λ s. chainsFrom left t (x .class) s) (λ r′. tree-runs left r′) r 0 (recordAt t (x .class) (states (r .stack)) .rules) refl

@@ -97,7 +97,7 @@ module _ (t : Table) (cls : ℕ) where
       at (inr a) = let q = shift-among st ch (recordAt t cls st .shift) refl a in subst (λ (c : Chain). IsChain t cls c st) (sym (q .0)) (q .1)
 
   sound : (left : ℕ) → Sound (chainsFrom left t cls)
-  unfolding chainsBy chainsFrom
+  unfolding chainsFrom
   sound zero st ch m = step-sound (λ s. []) (λ s c n. absurd (List·Memᴰ·not-nil n)) st ch m
   sound (suc left) st ch m = step-sound (λ s. chainsFrom left t cls s) (λ s c n. sound left s c n) st ch m
 
@@ -134,7 +134,7 @@ module _ (t : Table) (cls : ℕ) where
       (among-by P more st (recordAt t cls st .rules) g i 0 (c .0) (c .1) ch (c .2) (c .3) (λ p. h (c .1 ∷ drop (ruleOf t (c .0) .len) st) ch p (c .4))))
 
   complete : (left : ℕ) (st : List ℕ) (ch : Chain) → Grown left t cls st → IsChain t cls ch st → Among ch (chainsFrom left t cls st)
-  unfolding chainsFrom chainsBy
+  unfolding chainsFrom
   complete zero st ch g c = step-complete (λ s. ⊥) (λ s. []) (λ s d p q. absurd p) st ch g c
   complete (suc left) st ch g c = step-complete (λ s. Grown left t cls s) (λ s. chainsFrom left t cls s) (λ s d p q. complete left s d p q) st ch g c
 
@@ -182,7 +182,7 @@ module _ (t : Table) (cls : ℕ) where
       subst IsCons (sym (q .is) ∙ e) tt)
 
   different : (left : ℕ) (st : List ℕ) → Different (chainsFrom left t cls st)
-  unfolding chainsFrom chainsBy
+  unfolding chainsFrom
   different zero st = step-different (λ s. []) (λ s. tt) st
   different (suc left) st = step-different (λ s. chainsFrom left t cls s) (λ s. different left s) st
 

@@ -33,7 +33,7 @@ LowGo t go = (st : List ℕ) (n c : ℕ) (w : Walk) (n′ c′ : ℕ) → go st 
 
 rules-low : (t : Table) (room left : ℕ) (go : List ℕ → ℕ → ℕ → Walked) → LowGo t go → (sh : Maybe ℕ) (st ks : List ℕ) → Room sh (length st)
     → (n c : ℕ) (w : Walk) (n′ c′ : ℕ) → walkRules t room left go sh st ks n c ≡ walked w n′ c′ → Low t w (length st)
-unfolding endChain walkRules
+unfolding walkRules
 rules-low t room left go low sh st [] g n c w n′ c′ e = end-low t room sh (length st) n c w n′ c′ g e
 rules-low t room left go low sh st (k ∷ ks) g n c w n′ c′ e =
     let v = reduces t room left go sh st k ks n c w n′ c′ e in

@@ -12,7 +12,7 @@ use Rattle.meaning.specs.Readings.{Entry, Reading, top, states, holds, h
 use Rattle.meaning.specs.Walk.{Walk, shift, reduce, Walked, refused, walked, plan, ends}
 use Rattle.meaning.specs.Applying.{actOn, spanStart, reduced, shifted, refusedAction, unplanned, Applied, nothingApplied, oneResult, oneError, joined, thenApplied, ifActs, apply}
 use Rattle.meaning.specs.Outcome.{Fed, refusal}
-use Rattle.meaning.specs.Recovery.{Stage, stopped, came, thenStage, ifPlanned, errorTerm, recoverOne, recoverAll, longerTop, stays, takeTerm, termTaken, noneRecovered, afterRecovery, recover}
+use Rattle.meaning.specs.Recovery.{Stage, stopped, came, thenStage, ifPlanned, errorTerm, isHeld, recoverOne, recoverAll, longerTop, stays, takeTerm, termTaken, noneRecovered, afterRecovery, recover}
 use Rattle.meaning.specs.Feeding.{Planned, noPlan, plans, addReading, addPlan, planAll, applyAll, someTook, noneTook, First, refuses, settles, mustRecover, settle, firstOf, first, finish, feed}
 use Rattle.meaning.specs.Identities.{renEntry, renReading, renFed, Occurs, Renaming}
 use Rattle.meaning.specs.declared.Rule.{Rule}
@@ -164,11 +164,11 @@ module _ (ρ : ℕ → ℕ) (n₀ : ℕ) (P : ℕ → Type 0) (apart : (a b : �
 
   recoverOne-ren : (held : List Reading) (m : ℕ) (rest whole : List Entry) (p n w c : ℕ) → n₀ ≤ n → AllOf (Owned P) held → OwnedStack P rest
       → recoverOne t (map (rr ρ) held) m (map (re ρ) rest) (map (re ρ) whole) p (ρ n) w c ≡ rs (recoverOne t held m rest whole p n w c)
-  unfolding recoverOne
+  unfolding recoverOne isHeld
   recoverOne-ren held m [] whole p n w c l h o = refl
   recoverOne-ren held m (e ∷ rest) whole p n w c l h o =
       ap₂ {C = Stage} (λ (b : Bool) (st : List ℕ). if b then came (nothingApplied (ρ n)) w c else ifPlanned (plan t 16 1 st c) found′ on′) (held-ren held (e .born) h (o .0)) (states-ren ρ (e ∷ rest))
-      ∙ if-ren (heldBy held (e .born)) (came (nothingApplied n) w c) (ifPlanned (plan t 16 1 (states (e ∷ rest)) c) found on) (came (nothingApplied (ρ n)) w c) (ifPlanned (plan t 16 1 (states (e ∷ rest)) c) found′ on′)
+      ∙ if-ren (isHeld held e) (came (nothingApplied n) w c) (ifPlanned (plan t 16 1 (states (e ∷ rest)) c) found on) (came (nothingApplied (ρ n)) w c) (ifPlanned (plan t 16 1 (states (e ∷ rest)) c) found′ on′)
       refl
       (planned-ren (plan t 16 1 (states (e ∷ rest)) c) found found′ on on′ found-ren (λ k c′. recoverOne-ren held m rest whole (p + 1) n (w + k) c′ l h (o .1)))
     where

@@ -11,7 +11,7 @@ use Rattle.meaning.specs.TableFile.{Table, ruleOf}
 use Rattle.meaning.specs.Readings.{Entry, Reading, states, holds, heldBy}
 use Rattle.meaning.specs.Walk.{Walk, shift, reduce, Walked, refused, walked, plan, ends}
 use Rattle.meaning.specs.Applying.{actOn, reduced, shifted, refusedAction, Applied, nothingApplied, oneError, joined, ifActs, apply}
-use Rattle.meaning.specs.Recovery.{Stage, stopped, came, thenStage, ifPlanned, errorTerm, recoverOne, recoverAll}
+use Rattle.meaning.specs.Recovery.{Stage, stopped, came, thenStage, ifPlanned, errorTerm, isHeld, recoverOne, recoverAll}
 use Rattle.meaning.specs.declared.Term.{Term}
 use Rattle.meaning.proofs.Within.{all-append}
 
@@ -106,7 +106,7 @@ module _ (P : ℕ → Type 0) where
     unfolding recoverOne
     recover-made held m [] whole p n w c l h = made-none n
     recover-made held m (e ∷ rest) whole p n w c l h =
-        if-made n (heldBy held (e .born)) (came (nothingApplied n) w c) (ifPlanned (plan t 16 1 (states (e ∷ rest)) c) found pops) (made-none n)
+        if-made n (isHeld held e) (came (nothingApplied n) w c) (ifPlanned (plan t 16 1 (states (e ∷ rest)) c) found pops) (made-none n)
         (at (plan t 16 1 (states (e ∷ rest)) c) (λ k c′. recover-made held m rest whole (p + 1) n (w + k) c′ l (h .1)))
       where
         r : Reading

@@ -7,10 +7,9 @@ use Rattle.meaning.specs.Basics.{Maybe}
 use Rattle.meaning.specs.TableFile.{Table, ruleOf}
 use Rattle.meaning.specs.Kinds.{act}
 use Rattle.meaning.specs.Readings.{Entry, Reading, noEntry, top, states, stateNo}
-use Rattle.meaning.specs.Applying.{item, actOn, spanStart, reduced, shifted, refusedAction, unplanned}
+use Rattle.meaning.specs.Applying.{item, actOn, spanStart, reduced, refusedAction, unplanned}
 use Rattle.meaning.specs.Identities.{renEntry, renReading}
 use Rattle.meaning.specs.declared.Rule.{Rule}
-use Rattle.meaning.specs.declared.Term.{Term}
 use Rattle.meaning.specs.declared.ErrorRecord.{ErrorRecord}
 
 module _ (ρ : ℕ → ℕ) where
@@ -52,10 +51,6 @@ module _ (ρ : ℕ → ℕ) where
     mark = reduced q to v r n .mark;
     stack = record { born = ρ n; state = to; value = v; start = span-ren (r .stack) (q .len) i; end = end-ren (r .stack) i } ∷ drop-ren (q .len) (r .stack) i;
   }
-
-  pub shifted-ren : (x : Term) (to : ℕ) (r : Reading) (n : ℕ) → shifted x to (renReading ρ r) (ρ n) ≡ renReading ρ (shifted x to r n)
-  unfolding shifted
-  shifted-ren x to r n = refl
 
   pub refused-ren : (t : Table) (k : ℕ) (r : Reading) → refusedAction t k (renReading ρ r) ≡ refusedAction t k r
   unfolding refusedAction

@@ -16,7 +16,7 @@ use Rattle.meaning.specs.Demand3.{Undisturbed}
 use Rattle.meaning.specs.declared.Term.{Term}
 use Rattle.meaning.specs.declared.ErrorRecord.{ErrorRecord}
 use Rattle.meaning.specs.declared.Refusal.{Refusal}
-use Rattle.meaning.specs.declared.Refusal.the-variants.{WrongLength, WrongTable, WrongState, Consumed, WrongTerm, ReachesStart, NoGoto, TooHigh, ChainTooLong, WalkTooLong, TooManyReadings}
+use Rattle.meaning.specs.declared.Refusal.the-variants.{WrongLength, WrongTable, WrongState, Consumed, WrongArgument, ReachesStart, NoGoto, TooHigh, ChainTooLong, WalkTooLong, TooManyReadings}
 use Rattle.meaning.proofs.Trees.{treeFrom, Is, walk-is, walk-again}
 use Rattle.meaning.proofs.Plain.{got, errs, got-none, errs-none, apply-plain, map-append}
 use Rattle.meaning.proofs.Renamed.{states-ren, unplanned-all}
@@ -27,7 +27,7 @@ number-range WrongLength = (omega arith, omega arith)
 number-range WrongTable = (omega arith, omega arith)
 number-range WrongState = (omega arith, omega arith)
 number-range Consumed = (omega arith, omega arith)
-number-range WrongTerm = (omega arith, omega arith)
+number-range WrongArgument = (omega arith, omega arith)
 number-range ReachesStart = (omega arith, omega arith)
 number-range NoGoto = (omega arith, omega arith)
 number-range TooHigh = (omega arith, omega arith)
@@ -95,7 +95,7 @@ module _ (t : Table) (x : Term) where
   one-told : (r : Reading) (tree : Walk) (n c c₁ : ℕ) → tree ≡ treeOf t x (plain r) → n ≡ size tree → c₁ ≡ c + chains tree → (c ≤ 16 → c₁ ≤ 16) → Free t x (plain r)
       → (b : Bool) → ends tree ≡ b → (ps : List Reading) (tk : List (Reading × Walk)) (lf : List Reading) (w c′ : ℕ) → Told c₁ ps tk lf w c′
       → ToldOf c (plain r ∷ ps) (if b then plans ((r, tree) ∷ tk) lf (n + w) c′ else plans tk (r ∷ lf) (n + w) c′)
-  unfolding gotOf errsOf leftOf sizeOf chainsOf plannedOf applyAll apply planAll settle first feed startsRecovery unplanned plan ends size chains
+  unfolding gotOf errsOf leftOf sizeOf chainsOf plannedOf applyAll
   one-told r tree n c c₁ is ns cs room fr true e ps tk lf w c′ h =
       let s : size tree ≡ size (treeOf t x (plain r)) = ap size is in
       let d : chains tree ≡ chains (treeOf t x (plain r)) = ap chains is in
@@ -218,12 +218,12 @@ module _ (t : Table) (x : Term) where
       )
 
   planned-told : (ps : List Reading) (n : ℕ) (p : Planned) → ToldOf 0 ps p → AsOf ps (firstOf t x n p)
-  unfolding settle applyAll
+  unfolding settle
   planned-told ps n (noPlan k) h = h
   planned-told ps n (plans tk lf w c) h = settle-told ps tk lf w c n h (isNil (applyAll t x tk n .results)) refl (either (not (t .recovers)) (not (isNil tk))) refl
 
   pub first-told : (rs : List Reading) (n : ℕ) → AsOf (map plain (reverse rs)) (first t x rs n)
-  unfolding first planAll
+  unfolding first
   first-told rs n = planned-told (map plain (reverse rs)) n (planAll t (x .class) (reverse rs) 0) (plan-told (reverse rs) 0)
 
   finish-told : (ps rs : List Reading) (n : ℕ) (f : First) → AsOf ps f → isRecovery f ≡ false → ((1 ≤ finish t x rs n f .answer) × (finish t x rs n f .answer ≤ 11) → ⊥) → As ps (finish t x rs n f) × (recovering ps ≡ false) × Quiet ps
@@ -233,10 +233,10 @@ module _ (t : Table) (x : Term) where
   finish-told ps rs n (mustRecover w) h e g = absurd (subst IsTrue e tt)
 
   pub feed-told : (rs : List Reading) (n : ℕ) → Undisturbed t x rs n → As (map plain (reverse rs)) (feed t x rs n) × (recovering (map plain (reverse rs)) ≡ false) × Quiet (map plain (reverse rs))
-  unfolding first startsRecovery planAll feed
+  unfolding startsRecovery feed
   feed-told rs n u = finish-told (map plain (reverse rs)) rs n (first t x rs n) (first-told rs n) (u .no-recovery) (u .not-refused)
 
-  -- the other way: with nothing to refuse, planning does not refuses
+  -- the other way: with nothing to refuse, planning is not refused
   abbrev GoesOn : Planned → Type 0
   GoesOn (noPlan k) = ⊥
   GoesOn (plans tk lf w c) = Unit {0}
@@ -267,7 +267,7 @@ module _ (t : Table) (x : Term) where
   NotStop (mustRecover w) = Unit {0}
 
   first-on : (n : ℕ) (p : Planned) → GoesOn p → NotStop (firstOf t x n p)
-  unfolding settle applyAll
+  unfolding settle
   first-on n (noPlan k) h = h
   first-on n (plans tk lf w c) h = at (isNil (applyAll t x tk n .results)) (either (not (t .recovers)) (not (isNil tk)))
     where
@@ -287,7 +287,7 @@ module _ (t : Table) (x : Term) where
   finish-on ps rs n (mustRecover w) a s e = absurd (subst IsTrue (sym a ∙ e) tt)
 
   pub undisturbed : (rs : List Reading) (n : ℕ) → Quiet (map plain (reverse rs)) → recovering (map plain (reverse rs)) ≡ false → Undisturbed t x rs n
-  unfolding first planAll startsRecovery feed
+  unfolding startsRecovery feed first
   undisturbed rs n q e =
       let l = q .room in
       let o = finish-on (map plain (reverse rs)) rs n (first t x rs n) (first-told rs n) (first-on n (planAll t (x .class) (reverse rs) 0) (plan-on (reverse rs) 0 (q .free) (omega arith))) e in

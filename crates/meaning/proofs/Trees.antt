@@ -81,7 +81,7 @@ pub record Is (tree : Walk) (room n c : ℕ) (w : Walk) (n′ c′ : ℕ) : Type
   pub few : n ≤ 1024 → n′ ≤ 1024
 
 end-is : (room : ℕ) (sh : Maybe ℕ) (n c : ℕ) {w : Walk} {n′ c′ : ℕ} → endChain room sh n c ≡ walked w n′ c′ → Is (shift sh) room n c w n′ c′
-unfolding endChain recordAt landing reduction walkRules walkState walkFrom size chains gotoOf ruleOf
+unfolding endChain size chains
 end-is room nothing n c e =
     let a : n ≡ _ = ap countOf e in
     let b : c ≡ _ = ap chainsOf e in
@@ -171,7 +171,7 @@ reduces t room left go sh st k ks n c w n′ c′ e =
 
 rules-are : (t : Table) (room left : ℕ) (deeper : List ℕ → Walk) (P : List ℕ → Type 0) (go : List ℕ → ℕ → ℕ → Walked) → Fits deeper P room go
     → (sh : Maybe ℕ) (st ks : List ℕ) (n c : ℕ) (w : Walk) (n′ c′ : ℕ) → walkRules t room left go sh st ks n c ≡ walked w n′ c′ → Is (treeBy t deeper sh st ks) room n c w n′ c′ × GrownBy t P st ks
-unfolding endChain walkRules landing size chains recordAt reduction walkState walkFrom gotoOf ruleOf
+unfolding walkRules landing size chains
 rules-are t room left deeper P go fits sh st [] n c w n′ c′ e = (end-is room sh n c e, tt)
 rules-are t room left deeper P go fits sh st (k ∷ ks) n c w n′ c′ e =
     let a = fits (v .to ∷ rest) (n + 1) c (z .w) (z .n) (z .c) (z .is) in
@@ -266,7 +266,7 @@ end-again room (just t) n c w n′ c′ e d h =
 rules-again : (t : Table) (room left : ℕ) (go : List ℕ → ℕ → ℕ → Walked) → Again room go
     → (sh : Maybe ℕ) (st ks : List ℕ) (n c : ℕ) (w : Walk) (n′ c′ : ℕ) → walkRules t room left go sh st ks n c ≡ walked w n′ c′
     → (d : ℕ) → d + chains w ≤ room → walkRules t room left go sh st ks n d ≡ walked w n′ (d + chains w)
-unfolding endChain walkRules chains reduction
+unfolding walkRules reduction chains
 rules-again t room left go again sh st [] n c w n′ c′ e d h = end-again room sh n c w n′ c′ e d h
 rules-again t room left go again sh st (k ∷ ks) n c w n′ c′ e d h =
     let f : chains (z .w) + chains (y .w) ≡ chains w = ap chains (ap walkOf (v .all)) in

@@ -2,7 +2,7 @@
 use Prim.Native.Nat.{ℕ}
 use mathlib.Core.Bool.{Bool, true, false}
 use Rattle.meaning.specs.declared.Refusal.{Refusal}
-use Rattle.meaning.specs.declared.Refusal.the-variants.{WrongLength, WrongTable, WrongState, Consumed, WrongTerm, ReachesStart, NoGoto, TooHigh, ChainTooLong, WalkTooLong, TooManyReadings}
+use Rattle.meaning.specs.declared.Refusal.the-variants.{WrongLength, WrongTable, WrongState, Consumed, WrongArgument, ReachesStart, NoGoto, TooHigh, ChainTooLong, WalkTooLong, TooManyReadings}
 use Rattle.meaning.specs.declared.StartAnswer.{StartAnswer}
 use Rattle.meaning.specs.declared.StartAnswer.the-variants as start
 use Rattle.meaning.specs.declared.FeedAnswer.{FeedAnswer}
@@ -30,7 +30,7 @@ number WrongState = 3
 -- no reading is left
 number Consumed = 4
 -- class below 3 or not in the table, or start > end; when a stack is read out: no such reading
-number WrongTerm = 5
+number WrongArgument = 5
 -- a reduction reaches the start entry
 number ReachesStart = 6
 -- a goto is missing

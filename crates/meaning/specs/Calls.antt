@@ -21,7 +21,7 @@ use Rattle.meaning.specs.declared.StackNumbers.{StackNumbers}
 use Rattle.meaning.specs.declared.QuestionAnswer.{QuestionAnswer}
 use Rattle.meaning.specs.declared.QuestionAnswer.the-variants.{No, Refused}
 use Rattle.meaning.specs.declared.Refusal.{Refusal}
-use Rattle.meaning.specs.declared.Refusal.the-variants.{WrongLength, WrongTable, WrongState, Consumed, WrongTerm}
+use Rattle.meaning.specs.declared.Refusal.the-variants.{WrongLength, WrongTable, WrongState, Consumed, WrongArgument}
 
 abbrev pub State : Type 0
 State = Maybe (List Reading)
@@ -73,7 +73,7 @@ unfoldable pub feedCall : (lengths : Bool) → (table : List ℕ) → State → 
 feedCall lengths table state x errors next =
     checked lengths table state (feedRefused state errors) λ t rs.
     if isNil rs then feedRefused state errors Consumed
-    else if wrongTerm t x then feedRefused state errors WrongTerm
+    else if wrongTerm t x then feedRefused state errors WrongArgument
     else feedEnded errors (feed t x rs next)
 
 -- The questions. Consumed is no, before 5 is looked at.
@@ -82,7 +82,7 @@ unfoldable pub takesCall : (lengths : Bool) → (table : List ℕ) → State →
 takesCall lengths table state class =
     checked lengths table state Refused λ t rs.
     if isNil rs then No
-    else if either (ltb class firstTerm) (leb (t .counts .classes) class) then Refused WrongTerm
+    else if either (ltb class firstTerm) (leb (t .counts .classes) class) then Refused WrongArgument
     else takes t class rs
 
 unfoldable pub canEndCall : (lengths : Bool) → (table : List ℕ) → State → QuestionAnswer
@@ -110,5 +110,5 @@ unfoldable pub stackCall : (lengths : Bool) → (table : List ℕ) → State →
 stackCall lengths table state i entries =
     checked lengths table state (stackRefused entries) λ t rs.
     if isNil rs then stackRefused entries Consumed
-    else if leb (length rs) i then stackRefused entries WrongTerm
+    else if leb (length rs) i then stackRefused entries WrongArgument
     else stackRead entries (getD rs i noReading)

@@ -34,12 +34,16 @@ ifPlanned (walked tree n c) f g = if ends tree then f tree n c else g n c
 unfoldable pub errorTerm : List Entry → (popped : ℕ) → Term
 errorTerm whole popped = record { class = errorClass; value = 0; start = spanStart whole popped; end = top whole .end }
 
+-- whether another reading has this very entry
+unfoldable pub isHeld : (others : List Reading) → Entry → Bool
+isHeld others e = heldBy others (e .born)
+
 -- One reading walks from its top. If the top entry is held by another reading (still waiting, or a result of recovery), it stops and yields nothing.
 -- If the stack can be planned for the error class, that is applied, and the reading is done; else it pops. Height 1 is tried, height 0 never.
 unfoldable pub recoverOne : Table → (held : List Reading) → (mark : ℕ) → (rest whole : List Entry) → (popped next w c : ℕ) → Stage
 recoverOne t held m [] whole p n w c = came (nothingApplied n) w c
 recoverOne t held m (e ∷ rest) whole p n w c =
-    if heldBy held (e .born) then came (nothingApplied n) w c
+    if isHeld held e then came (nothingApplied n) w c
     else ifPlanned (plan t maxReadings errorClass (states (e ∷ rest)) c)
     (λ tree k c′. came (apply t (errorTerm whole p) tree (record { mark = m; stack = e ∷ rest }) n) (w + k) c′)
     (λ k c′. recoverOne t held m rest whole (p + 1) n (w + k) c′)

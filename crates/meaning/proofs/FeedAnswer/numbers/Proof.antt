@@ -1,46 +1,19 @@
+-- `FeedAnswer::numbers`: each arm is the definition's case.
+use mathlib.Core.Path.{ap, sym, _∙_}
 use borrow.Author.Needs.{needs}
+use Rattle.meaning.specs.Answers.{feedNumbers}
+use Rattle.meaning.specs.declared.FeedNumbers.{FeedNumbers}
 use Rattle.meaning.proofs.FeedAnswer.numbers.Statement.{statement}
 use Rattle.meaning.proofs.FeedAnswer.numbers.Tie as tie
-use Rattle.meaning.proofs.FeedAnswer.numbers.Reads as reads
-use Rattle.meaning.proofs.FeedAnswer.numbers.Lts as lts
-use Rattle.meaning.proofs.Refusal.number.Reads as number-reads
 
--- src/lib.rt:137:32
-enum-known-self : tie.Need-enum-known-self
-enum-known-self c = search needs
+done : tie.Need-returns
+done c = ap feedNumbers (sym (c .before .self .given .1))
 
--- src/lib.rt:142:36
-enum-known-self-2 : tie.Need-enum-known-self-2
-enum-known-self-2 c = search needs
+not-taken : tie.Need-returns-2
+not-taken c = ap feedNumbers (sym (c .before .self2 .given .1))
 
--- src/lib.rt:147:33
-enum-known-self-3 : tie.Need-enum-known-self-3
-enum-known-self-3 c = search needs
-
--- src/lib.rt:148:25
-number-requires : tie.Need-number-requires
-number-requires c κs = search needs
-
--- src/lib.rt:133:5
-returns : tie.Need-returns
-returns c = cc
-
--- src/lib.rt:133:5
-returns-2 : tie.Need-returns-2
-returns-2 c = cc
-
--- src/lib.rt:133:5
-returns-3 : tie.Need-returns-3
-returns-3 c = cc
+refused : tie.Need-returns-3
+refused c = ap {B = FeedNumbers} (λ n. record { answer = n; errors = 0; walked = 0 }) (c .number .ensures) ∙ ap feedNumbers (sym (c .before .before .self3 .given .1))
 
 pub numbers-spec : {M : Type 1} → statement M
-numbers-spec =
-    tie.close
-    (tie.spec
-    enum-known-self
-    enum-known-self-2
-    enum-known-self-3
-    number-requires
-    returns
-    returns-2
-    returns-3)
+numbers-spec = tie.close (tie.spec (λ c. search needs) (λ c. search needs) (λ c. search needs) (λ c κs. search needs) done not-taken refused)

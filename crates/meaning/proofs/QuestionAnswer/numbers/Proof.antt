@@ -1,39 +1,20 @@
+-- `QuestionAnswer::numbers`: each arm is the definition's case.
+use mathlib.Core.Bool.{false}
+use mathlib.Core.Path.{ap, sym, _∙_}
 use borrow.Author.Needs.{needs}
+use Rattle.meaning.specs.Answers.{questionNumbers}
+use Rattle.meaning.specs.declared.QuestionNumbers.{QuestionNumbers}
 use Rattle.meaning.proofs.QuestionAnswer.numbers.Statement.{statement}
 use Rattle.meaning.proofs.QuestionAnswer.numbers.Tie as tie
-use Rattle.meaning.proofs.QuestionAnswer.numbers.Reads as reads
-use Rattle.meaning.proofs.QuestionAnswer.numbers.Lts as lts
-use Rattle.meaning.proofs.Refusal.number.Reads as number-reads
 
--- src/lib.rt:172:36
-enum-told : tie.Need-enum-told
-enum-told c = search needs
+is-yes : tie.Need-returns
+is-yes c = ap questionNumbers (sym (c .enum-told .given .1))
 
--- src/lib.rt:176:35
-enum-told-2 : tie.Need-enum-told-2
-enum-told-2 c = search needs
+is-no : tie.Need-returns-2
+is-no c = ap questionNumbers (sym (c .enum-told2 .given .1))
 
--- src/lib.rt:180:37
-enum-known-self : tie.Need-enum-known-self
-enum-known-self c = search needs
-
--- src/lib.rt:181:25
-number-requires : tie.Need-number-requires
-number-requires c κs = search needs
-
--- src/lib.rt:168:5
-returns : tie.Need-returns
-returns c = cc
-
--- src/lib.rt:168:5
-returns-2 : tie.Need-returns-2
-returns-2 c = cc
-
--- src/lib.rt:168:5
-returns-3 : tie.Need-returns-3
-returns-3 c = cc
+refused : tie.Need-returns-3
+refused c = ap {B = QuestionNumbers} (λ n. record { answer = n; yes = false }) (c .number .ensures) ∙ ap questionNumbers (sym (c .before .before .self .given .1))
 
 pub numbers-spec : {M : Type 1} → statement M
-numbers-spec =
-    tie.close
-    (tie.spec enum-told enum-told-2 enum-known-self number-requires returns returns-2 returns-3)
+numbers-spec = tie.close (tie.spec (λ c. search needs) (λ c. search needs) (λ c. search needs) (λ c κs. search needs) is-yes is-no refused)
