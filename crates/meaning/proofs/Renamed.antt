@@ -4,9 +4,9 @@ use mathlib.Core.Path.{_≡_, refl, ap, ap₂, _∙_}
 use mathlib.Core.List.{List, [], _∷_, map}
 use lib.ListN.{getD, drop}
 use Rattle.meaning.specs.Basics.{Maybe}
-use Rattle.meaning.specs.TableFile.{Table, ruleOf}
+use Rattle.meaning.specs.TableFile.{Table, stateNo, ruleOf}
 use Rattle.meaning.specs.Kinds.{act}
-use Rattle.meaning.specs.Readings.{Entry, Reading, noEntry, top, states, stateNo}
+use Rattle.meaning.specs.Readings.{Entry, Reading, noEntry, top, states}
 use Rattle.meaning.specs.Applying.{item, actOn, spanStart, reduced, refusedAction, unplanned}
 use Rattle.meaning.specs.Identities.{renEntry, renReading}
 use Rattle.meaning.specs.declared.Rule.{Rule}

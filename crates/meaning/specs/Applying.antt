@@ -3,9 +3,9 @@ use Prim.Native.Nat.{ℕ, zero, suc, _+_, _-_, _%_}
 use mathlib.Core.List.{List, [], _∷_, _++_}
 use lib.ListN.{getD, drop}
 use Rattle.meaning.specs.Basics.{if_then_else_, Maybe, nothing, just}
-use Rattle.meaning.specs.TableFile.{Table, ruleOf}
+use Rattle.meaning.specs.TableFile.{Table, stateNo, ruleOf}
 use Rattle.meaning.specs.Kinds.{act}
-use Rattle.meaning.specs.Readings.{Entry, Reading, noEntry, top, stateNo}
+use Rattle.meaning.specs.Readings.{Entry, Reading, noEntry, top}
 use Rattle.meaning.specs.Walk.{Walk, shift, reduce, ends}
 use Rattle.meaning.specs.declared.Rule.{Rule}
 use Rattle.meaning.specs.declared.Term.{Term}

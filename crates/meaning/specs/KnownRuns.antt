@@ -3,7 +3,8 @@ use Prim.Native.Nat.{ℕ, zero, suc}
 use mathlib.Core.Bool.{Bool, true, false}
 use mathlib.Core.List.{List, [], _∷_, map, reverse}
 use Rattle.meaning.specs.Basics.{Maybe, nothing, just}
-use Rattle.meaning.specs.Readings.{Reading, Entry, seen, stateNo}
+use Rattle.meaning.specs.Readings.{Reading, seen}
+use Rattle.meaning.specs.TableFile.{stateNo}
 use Rattle.meaning.specs.Calls.{State, StartCall, startCall, FeedCall, feedCall}
 use Rattle.meaning.specs.KnownTables.{t1, t2, t4}
 use Rattle.meaning.specs.declared.Entry.{Entry as SeenEntry}

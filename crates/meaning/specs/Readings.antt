@@ -6,8 +6,7 @@ use mathlib.Core.List.{List, [], _∷_, map}
 use lib.Dec.{eqb}
 use lib.ListN.{getD}
 use Rattle.meaning.specs.Basics.{either}
-use Rattle.meaning.specs.TableFile.{Table, startState}
-use Rattle.meaning.specs.declared.StateNo.{StateNo}
+use Rattle.meaning.specs.TableFile.{Table, stateNo, startState}
 use Rattle.meaning.specs.declared.Entry.{Entry as SeenEntry}
 
 -- An entry has a state, a value, a span and an identity: the number of its birth, which is no other entry's.
@@ -55,9 +54,6 @@ heldBy (r ∷ rs) b = either (holds (r .stack) b) (heldBy rs b)
 unfoldable pub startReading : Table → (born : ℕ) → Reading
 startReading t born = record { mark = 0; stack = record { born = born; state = startState t; value = 0; start = 0; end = 0 } ∷ [] }
 
--- A state number, and an entry as it is shown.
-abbrev pub stateNo : ℕ → StateNo
-stateNo n = record { 0 = n }
-
+-- An entry as it is shown.
 abbrev pub seen : Entry → SeenEntry
 seen e = record { state = stateNo (e .state); value = e .value; start = e .start; end = e .end }

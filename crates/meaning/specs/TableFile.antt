@@ -10,6 +10,7 @@ use Rattle.meaning.specs.declared.Counts.{Counts}
 use Rattle.meaning.specs.declared.Field.{Field}
 use Rattle.meaning.specs.declared.View.{View}
 use Rattle.meaning.specs.declared.Rule.{Rule}
+use Rattle.meaning.specs.declared.StateNo.{StateNo}
 
 -- Where things stand.
 
@@ -118,6 +119,10 @@ startClass = 2
 abbrev pub firstTerm : ℕ
 firstTerm = 3
 
+-- A state number as structs hold it.
+abbrev pub stateNo : ℕ → StateNo
+stateNo n = record { 0 = n }
+
 -- Lookups. Each has an answer for every number; what is not in the table has no shift, no rule and no goto.
 
 -- whether the pair (x, y) is (a, b)
@@ -139,10 +144,11 @@ noRule = record { left = 0; len = 0; kind = 0; pick = 0; mark = 0; low = 0; high
 unfoldable pub ruleOf : Table → ℕ → Rule
 ruleOf t k = getD (t .rules) k noRule
 
--- where the shift of state 0 on the start class leads
+-- where a shift leads; 0 where there is none
 abbrev pub target : Maybe ℕ → ℕ
 target nothing = 0
 target (just to) = to
 
+-- the start shift's state
 unfoldable pub startState : Table → ℕ
 startState t = target (actionOf t 0 startClass .shift)
