@@ -1,0 +1,3 @@
+-- What the crate's contracts cite, beside meaning's reads.
+pub mod Writing
+pub mod Zeros
