@@ -1,7 +1,7 @@
 -- The bounds of a feed: errors, readings, heights, births, reductions walked.
-use Prim.Native.Nat.{ℕ, zero, suc, _+_, _*_, _≤_, _<_}
-use mathlib.Core.Path.{_≡_, refl, sym, ap, subst}
-use mathlib.Core.List.{List, [], _∷_, _++_, map, reverse, reverseAux}
+use Prim.Native.Nat.{ℕ, suc, _+_, _*_, _≤_, _<_}
+use mathlib.Core.Path.{_≡_, refl, sym, subst}
+use mathlib.Core.List.{List, [], _∷_, _++_, map, reverse}
 use mathlib.Core.Bool.{Bool, true, false, not}
 use lib.ListN.{length, length-append}
 use lib.Dec.{ltb, T, ltb→lt}
@@ -20,19 +20,8 @@ use Rattle.meaning.specs.declared.Term.{Term}
 use Rattle.meaning.specs.declared.Refusal.{Refusal}
 use Rattle.meaning.specs.declared.Refusal.the-variants.{TooManyReadings}
 use Rattle.meaning.proofs.Trees.{walk-is}
-use Rattle.meaning.proofs.Within.{all-append, Within, joined-within, nothing-within, wider, PlannedWithin, planned-within}
-
-length-map : {A B : Type 0} (f : A → B) (l : List A) → length (map f l) ≡ length l
-length-map f [] = refl
-length-map f (a ∷ l) = ap suc (length-map f l)
-
-length-reverse : {A : Type 0} (l acc : List A) → length (reverseAux l acc) ≡ length l + length acc
-length-reverse [] acc = omega arith
-length-reverse (a ∷ l) acc = let h = length-reverse l (a ∷ acc) in omega arith
-
-all-reverse : {A : Type 0} (P : A → Type 0) (a b : List A) → AllOf P a → AllOf P b → AllOf P (reverseAux a b)
-all-reverse P [] b h g = g
-all-reverse P (x ∷ a) b h g = all-reverse P a (x ∷ b) (h .1) (h .0, g)
+use Rattle.meaning.proofs.Within.{Within, joined-within, nothing-within, wider, PlannedWithin, planned-within}
+use Rattle.meaning.proofs.Tools.{length-map, length-reverse, all-append, all-reverse}
 
 module _ (t : Table) (x : Term) where
   -- The first planning: `many` readings are still to come after c chains.

@@ -2,12 +2,12 @@
 use Prim.Native.Nat.{ℕ, zero, suc}
 use mathlib.Core.Path.{_≡_, refl, sym, ap, _∙_, subst, fun-ext}
 use mathlib.Core.List.{List, [], _∷_, _++_, map, tail, append-assoc}
-use lib.ListN.{getD, drop}
+use lib.ListN.{drop}
 use Rattle.meaning.specs.Basics.{Maybe, nothing, just, bind, listed, consMaybe, each, nth}
 use Rattle.meaning.specs.TableFile.{Table, ruleOf}
 use Rattle.meaning.specs.Readings.{Entry, Reading, states}
 use Rattle.meaning.specs.Chains.{recordAt, landing, Chain, chainsBy, chainsFrom}
-use Rattle.meaning.specs.Walk.{Walk, shift, reduce}
+use Rattle.meaning.specs.Walk.{Walk, shift}
 use Rattle.meaning.specs.Applying.{actOn, reduced, shifted}
 use Rattle.meaning.specs.Demand3.{run}
 use Rattle.meaning.specs.declared.Rule.{Rule}

@@ -1,5 +1,5 @@
 -- The third demand: its two sentences, as theorems about the definitions.
-use Prim.Native.Nat.{ℕ, zero, suc, _+_, _≤_}
+use Prim.Native.Nat.{ℕ, zero, suc, _≤_}
 use mathlib.Core.Path.{_≡_, refl, sym, ap, ap₂, _∙_, subst}
 use mathlib.Core.List.{List, [], _∷_, _++_, map, reverse, List·Permᴰ·trans, Permᴰ·symm, Permᴰ·map, Permᴰ·reverse}
 use mathlib.Core.Bool.{Bool, true, false, not}
@@ -13,10 +13,11 @@ use Rattle.meaning.specs.Feeding.{feed, startsRecovery}
 use Rattle.meaning.specs.Demand3.{Same, Undisturbed, Alike, succeeded, Enumerates, ByChains}
 use Rattle.meaning.specs.declared.Term.{Term}
 use Rattle.meaning.proofs.Renamed.{states-ren}
-use Rattle.meaning.proofs.Settled.{gotOf, errsOf, leftOf, sizeOf, chainsOf, plannedOf, total, Free, As, recovering, Quiet, feed-told, undisturbed, map-reverse}
+use Rattle.meaning.proofs.Settled.{gotOf, errsOf, leftOf, sizeOf, chainsOf, plannedOf, Free, As, recovering, Quiet, feed-told, undisturbed}
 use Rattle.meaning.proofs.Bags.{perm-between, perm-append, nil-perm, flat-perm, total-perm, all-perm}
 use Rattle.meaning.proofs.ByChains.{tree-runs}
 use Rattle.meaning.proofs.Enumerated.{enumerates}
+use Rattle.meaning.proofs.Tools.{map-reverse}
 
 if-perm : {A : Type 0} (b c : Bool) → b ≡ c → {l l′ m m′ : List A} → Same l l′ → Same m m′ → Same (if b then l else m) (if c then l′ else m′)
 if-perm {A} b c e {l} {l′} {m} {m′} p q = subst (λ (d : Bool). Same (if b then l else m) (if d then l′ else m′)) e (same b)
@@ -32,7 +33,7 @@ pub order : (t : Table) (x : Term) (rs rs′ : List Reading) (next next′ : ℕ
     → Alike (feed t x rs next) (feed t x rs′ next′)
 order t x rs rs′ n n′ same u u′ =
     record {
-      answer = a .answer-is ∙ ap (λ (b : Bool). (if b then 12 else 0)) nils ∙ sym (a′ .answer-is);
+      answer = a .answer-is ∙ ap (λ (b : Bool). if b then 12 else 0) nils ∙ sym (a′ .answer-is);
       walked = a .walked-is ∙ total-perm (sizeOf t x) ps ∙ sym (a′ .walked-is);
       readings = perm-between (a .readings-are) (a′ .readings-are) (if-perm b b′ nils left-same (flat-perm (gotOf t x) ps));
       errors = perm-between (a .errors-are) (a′ .errors-are)
@@ -72,7 +73,7 @@ pub order-undisturbed : (t : Table) (x : Term) (rs rs′ : List Reading) (next n
     → Same (map plain rs) (map plain rs′) → Undisturbed t x rs next → Undisturbed t x rs′ next′
 order-undisturbed t x rs rs′ n n′ same u =
     undisturbed t x rs′ n′ (record { free = all-perm (Free t x) ps (a .2 .free); room = subst (λ (k : ℕ). k ≤ 16) (total-perm (chainsOf t x) ps) (a .2 .room) })
-    (ap₂ {C = Bool} (λ (b c : Bool). (if b then not (either (not (t .recovers)) (not c)) else false))
+    (ap₂ {C = Bool} (λ (b c : Bool). if b then not (either (not (t .recovers)) (not c)) else false)
     (sym (nil-perm (flat-perm (gotOf t x) ps))) (sym (nil-perm (flat-perm (plannedOf t x) ps))) ∙ a .1)
   where
     a : As t x (map plain (reverse rs)) (feed t x rs n) × (recovering t x (map plain (reverse rs)) ≡ false) × Quiet t x (map plain (reverse rs))
@@ -102,7 +103,7 @@ left-by-chains : (t : Table) (x : Term) (rs : List Reading) (next : ℕ)
     → map plain (feed t x rs next .readings) ≡ flat (succeeded t x) (reverse (map plain rs))
 left-by-chains t x rs n calm zero-is =
     a .readings-are ∙ taken (isNil (flat (gotOf t x) (map plain (reverse rs)))) (sym (a .answer-is) ∙ zero-is)
-    ∙ ap (flat (gotOf t x)) (map-reverse rs []) ∙ got-succeeded t x (reverse (map plain rs))
+    ∙ ap (flat (gotOf t x)) (map-reverse plain rs []) ∙ got-succeeded t x (reverse (map plain rs))
   where
     u : Undisturbed t x rs n
     u = record { no-recovery = calm; not-refused = λ h. let h0 = h .0 in omega arith }

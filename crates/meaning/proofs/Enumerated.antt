@@ -6,10 +6,9 @@ use mathlib.Core.List.{List, [], _∷_, _++_, map, tail, List·Memᴰ·head, Lis
 use lib.ListN.{drop}
 use native.Mathlib.Omega.{arith}
 use Rattle.meaning.specs.Basics.{Maybe, nothing, just, listed, nth}
-use Rattle.meaning.specs.Limits.{maxChain}
 use Rattle.meaning.specs.TableFile.{Table, ruleOf}
 use Rattle.meaning.specs.Chains.{recordAt, landing, Chain, IsChain, chainsBy, chainsFrom, chainsAt}
-use Rattle.meaning.specs.Walk.{Walk, Walked, walked, plan}
+use Rattle.meaning.specs.Walk.{Walk, walked, plan}
 use Rattle.meaning.specs.Demand3.{Among, Different, Enumerates}
 use Rattle.meaning.proofs.Trees.{GrownBy, Grown, walk-grown}
 

@@ -1,17 +1,18 @@
 -- A walk that was not refused nowhere goes above height 64.
 use Prim.Native.Nat.{ℕ, zero, suc, _+_, _-_, _≤_}
-use mathlib.Core.Path.{_≡_, sym, ap, subst}
+use mathlib.Core.Path.{_≡_, ap, subst}
 use mathlib.Core.List.{List, [], _∷_}
-use mathlib.Core.Bool.{Bool, true, false, not}
+use mathlib.Core.Bool.{false}
 use lib.ListN.{length, drop, length-drop}
-use lib.Dec.{ltb, T, nltb→le}
-use Rattle.meaning.specs.Basics.{if_then_else_, both, Maybe, nothing, just}
+use lib.Dec.{ltb, nltb→le}
+use Rattle.meaning.specs.Basics.{both, Maybe, nothing, just}
 use Rattle.meaning.specs.TableFile.{Table, ActionRecord, ruleOf}
 use Rattle.meaning.specs.TableRight.{shifts}
 use Rattle.meaning.specs.Chains.{recordAt}
 use Rattle.meaning.specs.Walk.{Walk, shift, reduce, Walked, refused, walked, endChain, walkRules, walkState, walkFrom}
 use Rattle.meaning.specs.declared.Refusal.the-variants.{TooHigh, ChainTooLong, TooManyReadings}
-use Rattle.meaning.proofs.Trees.{refused-not, if-not, if-yes, is-false, Reduces, reduces, walkOf}
+use Rattle.meaning.proofs.Trees.{refused-not, if-not, if-yes, reduces, walkOf}
+use Rattle.meaning.proofs.Tools.{is-false}
 
 -- a walk from height h that nowhere goes above 64
 abbrev pub Low : Table → Walk → ℕ → Type 0

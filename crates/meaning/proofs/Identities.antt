@@ -1,17 +1,17 @@
 -- A feed does not depend on identities: to rename them before it or after it is the same, as long as no two that occur become one.
-use Prim.Native.Nat.{ℕ, zero, suc, _+_, _≤_}
+use Prim.Native.Nat.{ℕ, _+_, _≤_}
 use mathlib.Core.Path.{_≡_, refl, sym, ap, ap₂, _∙_, subst}
 use mathlib.Core.Logic.{inl, inr}
-use mathlib.Core.List.{List, [], _∷_, _++_, map, reverse, reverseAux}
+use mathlib.Core.List.{List, [], _∷_, _++_, map, reverse}
 use mathlib.Core.Bool.{Bool, true, false, not}
 use lib.Dec.{ltb, eqb, T, eqb→eq, eqb-refl}
 use native.Mathlib.Omega.{arith}
 use Rattle.meaning.specs.Basics.{if_then_else_, either, Maybe, nothing, just, isNil, AllOf}
 use Rattle.meaning.specs.TableFile.{Table, ruleOf}
-use Rattle.meaning.specs.Readings.{Entry, Reading, top, states, holds, heldBy}
+use Rattle.meaning.specs.Readings.{Entry, Reading, states, holds, heldBy}
 use Rattle.meaning.specs.Walk.{Walk, shift, reduce, Walked, refused, walked, plan, ends}
-use Rattle.meaning.specs.Applying.{actOn, spanStart, reduced, shifted, refusedAction, unplanned, Applied, nothingApplied, oneResult, oneError, joined, thenApplied, ifActs, apply}
-use Rattle.meaning.specs.Outcome.{Fed, refusal}
+use Rattle.meaning.specs.Applying.{actOn, reduced, shifted, refusedAction, unplanned, Applied, nothingApplied, oneResult, oneError, joined, thenApplied, ifActs, apply}
+use Rattle.meaning.specs.Outcome.{Fed}
 use Rattle.meaning.specs.Recovery.{Stage, stopped, came, thenStage, ifPlanned, errorTerm, isHeld, recoverOne, recoverAll, longerTop, stays, takeTerm, termTaken, noneRecovered, afterRecovery, recover}
 use Rattle.meaning.specs.Feeding.{Planned, noPlan, plans, addReading, addPlan, planAll, applyAll, someTook, noneTook, First, refuses, settles, mustRecover, settle, firstOf, first, finish, feed}
 use Rattle.meaning.specs.Identities.{renEntry, renReading, renFed, Occurs, Renaming}
@@ -19,18 +19,9 @@ use Rattle.meaning.specs.declared.Rule.{Rule}
 use Rattle.meaning.specs.declared.Term.{Term}
 use Rattle.meaning.specs.declared.ErrorRecord.{ErrorRecord}
 use Rattle.meaning.specs.declared.Refusal.the-variants.{TooManyReadings}
-use Rattle.meaning.proofs.Plain.{map-append}
+use Rattle.meaning.proofs.Tools.{map-append, map-reverse, nil-map, all-append}
 use Rattle.meaning.proofs.Renamed.{states-ren, span-ren, end-ren, act-ren, reduced-ren, refused-ren, unplanned-all}
-use Rattle.meaning.proofs.Within.{all-append}
-use Rattle.meaning.proofs.Owned.{OwnedStack, Owned, own-readings, Made, made-none, made-joined, apply-made, MadeOf, recover-made, recoverAll-made, apply-grows}
-
-map-reverse : {A B : Type 0} (f : A → B) (l acc : List A) → map f (reverseAux l acc) ≡ reverseAux (map f l) (map f acc)
-map-reverse f [] acc = refl
-map-reverse f (r ∷ l) acc = map-reverse f l (r ∷ acc)
-
-nil-map : {A B : Type 0} (f : A → B) (l : List A) → isNil (map f l) ≡ isNil l
-nil-map f [] = refl
-nil-map f (r ∷ l) = refl
+use Rattle.meaning.proofs.Owned.{OwnedStack, Owned, own-readings, Made, made-none, made-joined, MadeOf, recover-made, recoverAll-made, apply-grows}
 
 same-bool : (u v : Bool) → (T u → T v) → (T v → T u) → u ≡ v
 same-bool true true f g = refl

@@ -1,7 +1,7 @@
 -- P1 to P10: every known run leaves what it is to leave, and the table check accepts the three tables.
 use mathlib.Core.Path.{_≡_, refl}
-use mathlib.Core.Bool.{Bool, true}
-use mathlib.Core.List.{List, [], _∷_, map}
+use mathlib.Core.Bool.{true}
+use mathlib.Core.List.{[], _∷_, map}
 use Rattle.meaning.specs.Basics.{find}
 use Rattle.meaning.specs.Bytes.{u16At, u32At}
 use Rattle.meaning.specs.TableFile.{fieldAt, countsOf, viewOf, places, ruleAt, rulesFrom, shiftTo, numbers, actionAt, gotoAt, actionsOf, gotosOf, tableOf, actionOf, gotoOf, ruleOf, startState}
@@ -14,7 +14,7 @@ use Rattle.meaning.specs.Applying.{actOn, spanStart, reduced, shifted, r
 use Rattle.meaning.specs.Recovery.{errorTerm, isHeld, recoverOne, recoverAll, longerTop, stays, takeTerm, recover}
 use Rattle.meaning.specs.Feeding.{planAll, applyAll, settle, first, feed}
 use Rattle.meaning.specs.Calls.{startCall, wrongTerm, feedCall}
-use Rattle.meaning.specs.KnownRuns.{Run, Outcome, feedAll, outcome, knownRuns}
+use Rattle.meaning.specs.KnownRuns.{Run, feedAll, outcome, knownRuns}
 use Rattle.meaning.specs.KnownTables.{t1, t2, t4}
 
 pub accepted : map tableOk (t1 ∷ t2 ∷ t4 ∷ []) ≡ true ∷ true ∷ true ∷ []

@@ -1,3 +1,5 @@
+-- Theorems about the definitions: docs/DECISIONS.md lists them.
+pub mod Tools
 pub mod Trees
 pub mod Renamed
 pub mod Plain

@@ -1,9 +1,9 @@
 -- The identities of what a feed makes: those that its readings held, and births. And births only go up.
 use Prim.Native.Nat.{ℕ, zero, suc, _+_, _≤_}
-use mathlib.Core.Path.{_≡_, refl, sym, ap, subst}
+use mathlib.Core.Path.{_≡_, refl, ap}
 use mathlib.Core.Bool.{Bool, true, false}
 use mathlib.Core.List.{List, [], _∷_, _++_}
-use lib.Dec.{eqb, T, eqb-refl}
+use lib.Dec.{eqb, eqb-refl}
 use lib.ListN.{drop}
 use native.Mathlib.Omega.{arith}
 use Rattle.meaning.specs.Basics.{if_then_else_, either, Maybe, nothing, just, AllOf}
@@ -13,11 +13,7 @@ use Rattle.meaning.specs.Walk.{Walk, shift, reduce, Walked, refused, wal
 use Rattle.meaning.specs.Applying.{actOn, reduced, shifted, refusedAction, Applied, nothingApplied, oneError, joined, ifActs, apply}
 use Rattle.meaning.specs.Recovery.{Stage, stopped, came, thenStage, ifPlanned, errorTerm, isHeld, recoverOne, recoverAll}
 use Rattle.meaning.specs.declared.Term.{Term}
-use Rattle.meaning.proofs.Within.{all-append}
-
-T-path : (b : Bool) → T b → b ≡ true
-T-path true h = refl
-T-path false h = absurd h
+use Rattle.meaning.proofs.Tools.{is-true, all-append}
 
 either-left : (a b : Bool) → a ≡ true → either a b ≡ true
 either-left a b e = ap (λ (c : Bool). either c b) e
@@ -38,7 +34,7 @@ module _ (P : ℕ → Type 0) where
   unfolding holds
   own-stack [] f = tt
   own-stack (e ∷ s) f = (
-    f (e .born) (either-left (eqb (e .born) (e .born)) (holds s (e .born)) (T-path (eqb (e .born) (e .born)) (eqb-refl (e .born)))),
+    f (e .born) (either-left (eqb (e .born) (e .born)) (holds s (e .born)) (is-true (eqb (e .born) (e .born)) (eqb-refl (e .born)))),
     own-stack s (λ b h. f b (either-right (eqb (e .born) b) (holds s b) h)),
   )
 

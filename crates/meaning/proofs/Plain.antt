@@ -12,6 +12,7 @@ use Rattle.meaning.specs.declared.Rule.{Rule}
 use Rattle.meaning.specs.declared.Term.{Term}
 use Rattle.meaning.specs.declared.ErrorRecord.{ErrorRecord}
 use Rattle.meaning.proofs.Renamed.{act-ren, reduced-ren, refused-ren}
+use Rattle.meaning.proofs.Tools.{IsTrue, map-append}
 
 -- the readings that a walk gives; a dead end gives none by itself
 abbrev pub got : Table → Term → Walk → Reading → List Reading
@@ -34,10 +35,6 @@ or-false : (a b : Bool) → either a b ≡ false → (a ≡ false) × (b ≡ fal
 or-false true b e = (e, elim b as (λ (c : Bool). c ≡ false) [ true ↦ e | false ↦ refl ])
 or-false false b e = (refl, e)
 
-abbrev IsTrue : Bool → Type 0
-IsTrue true = Unit {0}
-IsTrue false = ⊥
-
 pub got-none : (t : Table) (x : Term) (w : Walk) (r : Reading) → ends w ≡ false → got t x w r ≡ []
 unfolding ends
 got-none t x (shift nothing) r e = refl
@@ -56,12 +53,8 @@ unfolding ends
 errs-none t x (shift s) r e = refl
 errs-none t x (reduce k to below beside) r e =
     ap₂ {C = List ErrorRecord} (λ a b. a ++ b)
-    (ap (λ (b : Bool). (if b then orElse (actOn (ruleOf t k) (r .stack)) (λ v. errs t x below (reduced (ruleOf t k) to v r 0)) (refusedAction t k r ∷ []) else [])) (or-false (ends below) (ends beside) e .0))
+    (ap (λ (b : Bool). if b then orElse (actOn (ruleOf t k) (r .stack)) (λ v. errs t x below (reduced (ruleOf t k) to v r 0)) (refusedAction t k r ∷ []) else []) (or-false (ends below) (ends beside) e .0))
     (errs-none t x beside r (or-false (ends below) (ends beside) e .1))
-
-pub map-append : {A B : Type 0} (f : A → B) (l m : List A) → map f (l ++ m) ≡ map f l ++ map f m
-map-append f [] m = refl
-map-append {A} {B} f (a ∷ l) m = ap {B = List B} (λ k. f a ∷ k) (map-append f l m)
 
 pub apply-plain : (t : Table) (x : Term) (w : Walk) (r : Reading) (n : ℕ)
     → (map plain (apply t x w r n .results) ≡ got t x w (plain r)) × (apply t x w r n .errors ≡ errs t x w (plain r))
@@ -75,7 +68,7 @@ apply-plain t x (reduce k to below beside) r n = (
       (apply-plain t x beside r (part (ends below) (actOn q (r .stack)) .next) .0),
   ap₂ {C = List ErrorRecord} (λ a b. a ++ b)
       (errors (ends below) (actOn q (r .stack)) (λ v. apply-plain t x below (red v) (n + 1) .1)
-      ∙ ap (λ (m : Maybe ℕ). (if ends below then orElse m (λ v. errs t x below (reduced q to v (plain r) 0)) (refusedAction t k (plain r) ∷ []) else [])) (sym (act-ren (λ b. 0) q (r .stack))))
+      ∙ ap (λ (m : Maybe ℕ). if ends below then orElse m (λ v. errs t x below (reduced q to v (plain r) 0)) (refusedAction t k (plain r) ∷ []) else []) (sym (act-ren (λ b. 0) q (r .stack))))
       (apply-plain t x beside r (part (ends below) (actOn q (r .stack)) .next) .1),
 )
   where

@@ -1,6 +1,6 @@
 -- A question is refused by 6 to 10 only: there is always room for one more chain.
 use Prim.Native.Nat.{ℕ, zero, suc, _+_, _≤_, _<_}
-use mathlib.Core.Path.{_≡_, refl, sym, subst}
+use mathlib.Core.Path.{_≡_, refl}
 use mathlib.Core.List.{List, [], _∷_}
 use mathlib.Core.Bool.{Bool, true, false}
 use lib.ListN.{length, getD, drop}
@@ -16,10 +16,10 @@ use Rattle.meaning.specs.Walk.{Walk, shift, reduce, Walked, refused, wal
 use Rattle.meaning.specs.Questions.{enoughRoom, planned, canPlan, orElse, takes, canEnd, recoversFrom, someRecovers, canRecover}
 use Rattle.meaning.specs.declared.Rule.{Rule}
 use Rattle.meaning.specs.declared.Refusal.{Refusal}
-use Rattle.meaning.specs.declared.Refusal.the-variants.{ReachesStart, NoGoto, TooHigh, ChainTooLong, WalkTooLong, TooManyReadings}
+use Rattle.meaning.specs.declared.Refusal.the-variants.{ReachesStart, TooHigh, ChainTooLong, WalkTooLong, TooManyReadings}
 use Rattle.meaning.specs.declared.QuestionAnswer.{QuestionAnswer}
 use Rattle.meaning.specs.declared.QuestionAnswer.the-variants.{Yes, No, Refused}
-use Rattle.meaning.proofs.Trees.{is-false}
+use Rattle.meaning.proofs.Tools.{is-false}
 
 abbrev From6To10 : Refusal → Type 0
 From6To10 k = (6 ≤ number k) × (number k ≤ 10)

@@ -1,7 +1,7 @@
 -- What a feed without recovery leaves, as a function of the plain readings alone.
-use Prim.Native.Nat.{ℕ, zero, suc, _+_, _≤_}
+use Prim.Native.Nat.{ℕ, _+_, _≤_}
 use mathlib.Core.Path.{_≡_, refl, sym, ap, ap₂, _∙_, subst}
-use mathlib.Core.List.{List, [], _∷_, _++_, map, reverse, reverseAux}
+use mathlib.Core.List.{List, [], _∷_, _++_, map, reverse}
 use mathlib.Core.Bool.{Bool, true, false, not}
 use native.Mathlib.Omega.{arith}
 use Rattle.meaning.specs.Basics.{if_then_else_, either, isNil, flat, AllOf}
@@ -18,8 +18,9 @@ use Rattle.meaning.specs.declared.ErrorRecord.{ErrorRecord}
 use Rattle.meaning.specs.declared.Refusal.{Refusal}
 use Rattle.meaning.specs.declared.Refusal.the-variants.{WrongLength, WrongTable, WrongState, Consumed, WrongArgument, ReachesStart, NoGoto, TooHigh, ChainTooLong, WalkTooLong, TooManyReadings}
 use Rattle.meaning.proofs.Trees.{treeFrom, Is, walk-is, walk-again}
-use Rattle.meaning.proofs.Plain.{got, errs, got-none, errs-none, apply-plain, map-append}
+use Rattle.meaning.proofs.Plain.{got, errs, got-none, errs-none, apply-plain}
 use Rattle.meaning.proofs.Renamed.{states-ren, unplanned-all}
+use Rattle.meaning.proofs.Tools.{IsTrue, map-append, map-reverse, nil-map}
 
 -- a refusal's number is from 1 to 11
 pub number-range : (k : Refusal) → (1 ≤ number k) × (number k ≤ 11)
@@ -57,14 +58,6 @@ sizeOf t x p = size (treeOf t x p)
 
 unfoldable pub chainsOf : Table → Term → Reading → ℕ
 chainsOf t x p = chains (treeOf t x p)
-
-abbrev IsTrue : Bool → Type 0
-IsTrue true = Unit {0}
-IsTrue false = ⊥
-
-pub map-reverse : (l acc : List Reading) → map plain (reverseAux l acc) ≡ reverseAux (map plain l) (map plain acc)
-map-reverse [] acc = refl
-map-reverse (r ∷ l) acc = map-reverse l (r ∷ acc)
 
 unfoldable pub plannedOf : Table → Term → Reading → List Reading
 plannedOf t x p = (if ends (treeOf t x p) then p ∷ [] else [])
@@ -172,14 +165,10 @@ module _ (t : Table) (x : Term) where
   AsOf ps (settles f) = As ps f × (recovering ps ≡ false) × Quiet ps
   AsOf ps (mustRecover w) = recovering ps ≡ true
 
-  nil-plain : (l : List Reading) → isNil (map plain l) ≡ isNil l
-  nil-plain [] = refl
-  nil-plain (r ∷ l) = refl
-
   recover-flag : (ps : List Reading) (tk : List (Reading × Walk)) (lf : List Reading) (w c′ n : ℕ) → Told 0 ps tk lf w c′
       → (b : Bool) → isNil (applyAll t x tk n .results) ≡ b → (d : Bool) → either (not (t .recovers)) (not (isNil tk)) ≡ d → recovering ps ≡ (if b then not d else false)
   recover-flag ps tk lf w c′ n h b e d f =
-      ap₂ {C = Bool} (λ (u v : Bool). (if u then not v else false)) (sym (ap isNil (h .results n)) ∙ nil-plain (applyAll t x tk n .results) ∙ e)
+      ap₂ {C = Bool} (λ (u v : Bool). if u then not v else false) (sym (ap isNil (h .results n)) ∙ nil-map plain (applyAll t x tk n .results) ∙ e)
       (ap (λ (u : Bool). either (not (t .recovers)) (not u)) (sym (h .taken)) ∙ f)
 
   quiet : (ps : List Reading) (tk : List (Reading × Walk)) (lf : List Reading) (w c′ : ℕ) → Told 0 ps tk lf w c′ → Quiet ps
@@ -193,24 +182,24 @@ module _ (t : Table) (x : Term) where
       → AsOf ps (if not b then settles (someTook lf w (applyAll t x tk n)) else if d then settles (noneTook lf w (applyAll t x tk n)) else mustRecover w)
   settle-told ps tk lf w c′ n h true e false f = recover-flag ps tk lf w c′ n h true e false f
   settle-told ps tk lf w c′ n h true e true f =
-      let nil : true ≡ isNil (flat (gotOf t x) ps) = sym e ∙ sym (nil-plain (applyAll t x tk n .results)) ∙ ap isNil (h .results n) in (
+      let nil : true ≡ isNil (flat (gotOf t x) ps) = sym e ∙ sym (nil-map plain (applyAll t x tk n .results)) ∙ ap isNil (h .results n) in (
         record {
-          answer-is = ap (λ (b : Bool). (if b then 12 else 0)) nil;
-          readings-are = h .left ∙ ap (λ (b : Bool). (if b then flat (leftOf t x) ps else flat (gotOf t x) ps)) nil;
+          answer-is = ap (λ (b : Bool). if b then 12 else 0) nil;
+          readings-are = h .left ∙ ap (λ (b : Bool). if b then flat (leftOf t x) ps else flat (gotOf t x) ps) nil;
           errors-are = ap₂ {C = List ErrorRecord} (λ a l. a ++ l) (h .errors n)
-              (sym (unplanned-all (λ b. 0) lf) ∙ ap (map unplanned) (h .left ∙ ap (λ (b : Bool). (if b then flat (leftOf t x) ps else reverse (flat (leftOf t x) ps))) nil));
+              (sym (unplanned-all (λ b. 0) lf) ∙ ap (map unplanned) (h .left ∙ ap (λ (b : Bool). if b then flat (leftOf t x) ps else reverse (flat (leftOf t x) ps)) nil));
           walked-is = h .walked;
         },
         recover-flag ps tk lf w c′ n h true e true f,
         quiet ps tk lf w c′ h,
       )
   settle-told ps tk lf w c′ n h false e d f =
-      let nil : false ≡ isNil (flat (gotOf t x) ps) = sym e ∙ sym (nil-plain (applyAll t x tk n .results)) ∙ ap isNil (h .results n) in (
+      let nil : false ≡ isNil (flat (gotOf t x) ps) = sym e ∙ sym (nil-map plain (applyAll t x tk n .results)) ∙ ap isNil (h .results n) in (
         record {
-          answer-is = ap (λ (b : Bool). (if b then 12 else 0)) nil;
-          readings-are = h .results n ∙ ap (λ (b : Bool). (if b then flat (leftOf t x) ps else flat (gotOf t x) ps)) nil;
+          answer-is = ap (λ (b : Bool). if b then 12 else 0) nil;
+          readings-are = h .results n ∙ ap (λ (b : Bool). if b then flat (leftOf t x) ps else flat (gotOf t x) ps) nil;
           errors-are = ap₂ {C = List ErrorRecord} (λ a l. a ++ l) (h .errors n)
-              (sym (unplanned-all (λ b. 0) (reverse lf)) ∙ ap (map unplanned) (map-reverse lf [] ∙ ap reverse (h .left) ∙ ap (λ (b : Bool). (if b then flat (leftOf t x) ps else reverse (flat (leftOf t x) ps))) nil));
+              (sym (unplanned-all (λ b. 0) (reverse lf)) ∙ ap (map unplanned) (map-reverse plain lf [] ∙ ap reverse (h .left) ∙ ap (λ (b : Bool). if b then flat (leftOf t x) ps else reverse (flat (leftOf t x) ps)) nil));
           walked-is = h .walked;
         },
         recover-flag ps tk lf w c′ n h false e d f,

@@ -2,7 +2,7 @@
 use Prim.Native.Nat.{ℕ, zero, suc, _+_, _≤_, _<_}
 use mathlib.Core.Path.{_≡_, refl, sym, ap, _∙_, subst}
 use mathlib.Core.List.{List, [], _∷_}
-use mathlib.Core.Bool.{Bool, true, false, not}
+use mathlib.Core.Bool.{Bool, true, false}
 use lib.ListN.{length, getD, drop}
 use lib.Dec.{leb, ltb, eqb, T, ltb→lt, lt→ltb, nleb→lt}
 use native.Mathlib.Omega.{arith}
@@ -10,10 +10,11 @@ use Rattle.meaning.specs.Basics.{if_then_else_, both, Maybe, nothing, ju
 use Rattle.meaning.specs.TableFile.{Table, ActionRecord, gotoOf, ruleOf}
 use Rattle.meaning.specs.TableRight.{shifts}
 use Rattle.meaning.specs.Chains.{recordAt, landing}
-use Rattle.meaning.specs.Walk.{Walk, shift, reduce, Walked, refused, walked, andThen, endChain, orNoGoto, reduction, walkRules, walkState, walkFrom, size, one, chains}
+use Rattle.meaning.specs.Walk.{Walk, shift, reduce, Walked, refused, walked, andThen, endChain, orNoGoto, reduction, walkRules, walkState, walkFrom, size, chains}
 use Rattle.meaning.specs.declared.Rule.{Rule}
 use Rattle.meaning.specs.declared.Refusal.{Refusal}
-use Rattle.meaning.specs.declared.Refusal.the-variants.{ReachesStart, NoGoto, TooHigh, ChainTooLong, WalkTooLong, TooManyReadings}
+use Rattle.meaning.specs.declared.Refusal.the-variants.{ReachesStart, TooHigh, ChainTooLong, WalkTooLong, TooManyReadings}
+use Rattle.meaning.proofs.Tools.{is-true, is-false}
 
 abbrev pub treeStep : Maybe ℕ → ℕ → (ℕ → Walk) → Walk → Walk
 treeStep nothing k deeper beside = beside
@@ -68,9 +69,6 @@ pub record Walks (x : Walked) : Type 0 where
 then-yes : (x : Walked) (f : Walk → ℕ → ℕ → Walked) {w : Walk} {n c : ℕ} → andThen x f ≡ walked w n c → (z : Walks x) × (f (z .w) (z .n) (z .c) ≡ walked w n c)
 then-yes (refused k) f e = refused-not e
 then-yes (walked w n c) f e = (record { w = w; n = n; c = c; is = refl }, e)
-
-pub is-false : {b : Bool} → b ≡ false → T (not b)
-is-false e = subst (λ (b : Bool). T (not b)) (sym e) tt
 
 -- what a walk that was not refused is
 pub record Is (tree : Walk) (room n c : ℕ) (w : Walk) (n′ c′ : ℕ) : Type 0 where
@@ -213,7 +211,7 @@ rules-are t room left deeper P go fits sh st (k ∷ ks) n c w n′ c′ e =
     y = v .beside
 
     land : landing t q st ≡ just (v .to)
-    land = ap (λ (b : Bool). (if b then nothing else gotoOf t (getD rest 0 0) (q .left))) (v .pops) ∙ v .leads
+    land = ap (λ (b : Bool). if b then nothing else gotoOf t (getD rest 0 0) (q .left)) (v .pops) ∙ v .leads
 
     tree-step : treeStep (landing t q st) k (λ to. deeper (to ∷ rest)) others ≡ reduce k (v .to) (deeper (v .to ∷ rest)) others
     tree-step = ap (λ (m : Maybe ℕ). treeStep m k (λ to. deeper (to ∷ rest)) others) land
@@ -245,10 +243,6 @@ walk-grown left t room cls st n c w n′ c′ e = walk-both left t room cls st n
 abbrev pub Again : ℕ → (List ℕ → ℕ → ℕ → Walked) → Type 0
 Again room go = (st : List ℕ) (n c : ℕ) (w : Walk) (n′ c′ : ℕ) → go st n c ≡ walked w n′ c′ → (d : ℕ) → d + chains w ≤ room → go st n d ≡ walked w n′ (d + chains w)
 
-T-path : (b : Bool) → T b → b ≡ true
-T-path true h = refl
-T-path false h = absurd h
-
 end-again : (room : ℕ) (sh : Maybe ℕ) (n c : ℕ) (w : Walk) (n′ c′ : ℕ) → endChain room sh n c ≡ walked w n′ c′ → (d : ℕ) → d + chains w ≤ room → endChain room sh n d ≡ walked w n′ (d + chains w)
 unfolding chains endChain
 end-again room nothing n c w n′ c′ e d h =
@@ -260,7 +254,7 @@ end-again room (just t) n c w n′ c′ e d h =
     let f : 1 ≡ chains w = ap chains (ap walkOf e′) in
     let g : d + 1 ≡ d + chains w = omega arith in
     let l : d < room = omega arith in
-    ap (λ (b : Bool). (if b then walked (shift (just t)) n (d + 1) else refused TooManyReadings)) (T-path (ltb d room) (lt→ltb d room l))
+    ap (λ (b : Bool). if b then walked (shift (just t)) n (d + 1) else refused TooManyReadings) (is-true (ltb d room) (lt→ltb d room l))
     ∙ (λ i. walked (ap walkOf e′ i) (ap countOf e′ i) (g i))
 
 rules-again : (t : Table) (room left : ℕ) (go : List ℕ → ℕ → ℕ → Walked) → Again room go
@@ -271,11 +265,11 @@ rules-again t room left go again sh st [] n c w n′ c′ e d h = end-again room
 rules-again t room left go again sh st (k ∷ ks) n c w n′ c′ e d h =
     let f : chains (z .w) + chains (y .w) ≡ chains w = ap chains (ap walkOf (v .all)) in
     let g : d + chains (z .w) + chains (y .w) ≡ d + chains w = omega arith in
-    ap (λ (b : Bool). (if b then refused WalkTooLong else if eqb left 0 then refused ChainTooLong else if leb (length st) (q .len) then refused ReachesStart else low)) (v .steps-fit)
-    ∙ ap (λ (b : Bool). (if b then refused ChainTooLong else if leb (length st) (q .len) then refused ReachesStart else low)) (v .chain-fits)
-    ∙ ap (λ (b : Bool). (if b then refused ReachesStart else low)) (v .pops)
+    ap (λ (b : Bool). if b then refused WalkTooLong else if eqb left 0 then refused ChainTooLong else if leb (length st) (q .len) then refused ReachesStart else low) (v .steps-fit)
+    ∙ ap (λ (b : Bool). if b then refused ChainTooLong else if leb (length st) (q .len) then refused ReachesStart else low) (v .chain-fits)
+    ∙ ap (λ (b : Bool). if b then refused ReachesStart else low) (v .pops)
     ∙ ap (λ (m : Maybe ℕ). orNoGoto m high) (v .leads)
-    ∙ ap (λ (b : Bool). (if b then refused TooHigh else last (v .to))) (v .not-high)
+    ∙ ap (λ (b : Bool). if b then refused TooHigh else last (v .to)) (v .not-high)
     ∙ ap (λ (x : Walked). andThen x (grown (v .to))) (again (v .to ∷ rest) (n + 1) c (z .w) (z .n) (z .c) (z .is) d (omega arith))
     ∙ ap (λ (x : Walked). andThen x (λ v′ m′ d′. walked (reduce k (v .to) (z .w) v′) m′ d′))
     (rules-again t room left go again sh st ks (z .n) (z .c) (y .w) (y .n) (y .c) (y .is) (d + chains (z .w)) (omega arith))
@@ -314,7 +308,7 @@ state-again : (t : Table) (room left : ℕ) (go : List ℕ → ℕ → ℕ → W
 unfolding walkState
 state-again t room left go again a st n c w n′ c′ e d h =
     let f = if-not (both (shifts (a .shift)) (ltb 64 (length st + 1))) TooHigh (walkRules t room left go (a .shift) st (a .rules) n c) e in
-    ap (λ (b : Bool). (if b then refused TooHigh else walkRules t room left go (a .shift) st (a .rules) n d)) (f .0) ∙ rules-again t room left go again (a .shift) st (a .rules) n c w n′ c′ (f .1) d h
+    ap (λ (b : Bool). if b then refused TooHigh else walkRules t room left go (a .shift) st (a .rules) n d) (f .0) ∙ rules-again t room left go again (a .shift) st (a .rules) n c w n′ c′ (f .1) d h
 
 pub walk-again : (left : ℕ) (t : Table) (room cls : ℕ) → Again room (walkFrom left t room cls)
 unfolding walkState walkFrom

@@ -1,7 +1,7 @@
 -- What applying one planned walk comes to: how many readings, errors and births, and how high the readings stand.
-use Prim.Native.Nat.{ℕ, zero, suc, _+_, _-_, _*_, _≤_}
+use Prim.Native.Nat.{ℕ, zero, suc, _+_, _*_, _≤_}
 use mathlib.Core.Path.{_≡_, refl, sym, ap, subst}
-use mathlib.Core.List.{List, [], _∷_, _++_}
+use mathlib.Core.List.{List, [], _∷_}
 use mathlib.Core.Bool.{Bool, true, false}
 use lib.ListN.{length, drop, length-append, length-drop}
 use native.Mathlib.Omega.{arith}
@@ -10,21 +10,17 @@ use Rattle.meaning.specs.TableFile.{Table, ruleOf}
 use Rattle.meaning.specs.Readings.{Entry, Reading, states}
 use Rattle.meaning.specs.Chains.{recordAt, landing}
 use Rattle.meaning.specs.Walk.{Walk, shift, reduce, walked, plan, ends, one, chains}
-use Rattle.meaning.specs.Applying.{actOn, reduced, shifted, refusedAction, Applied, nothingApplied, oneResult, oneError, joined, thenApplied, ifActs, apply}
+use Rattle.meaning.specs.Applying.{actOn, reduced, shifted, refusedAction, Applied, nothingApplied, oneError, joined, ifActs, apply}
 use Rattle.meaning.specs.Bounds.{Standing}
-use Rattle.meaning.specs.declared.Rule.{Rule}
 use Rattle.meaning.specs.declared.Term.{Term}
-use Rattle.meaning.proofs.Trees.{treeStep, treeBy, treeFrom, Is, walk-is}
+use Rattle.meaning.proofs.Trees.{treeStep, treeBy, treeFrom, walk-is}
 use Rattle.meaning.proofs.Heights.{Low, walk-low}
+use Rattle.meaning.proofs.Tools.{IsTrue, all-append}
 
 -- the births that applying a walk may come to
 abbrev births : Walk → ℕ
 births (shift sh) = one sh
 births (reduce k to below beside) = (if ends below then 1 + births below else 0) + births beside
-
-abbrev IsTrue : Bool → Type 0
-IsTrue true = Unit {0}
-IsTrue false = ⊥
 
 either-true : (a b : Bool) {c d : ℕ} → (a ≡ true → 1 ≤ c) → (b ≡ true → 1 ≤ d) → either a b ≡ true → 1 ≤ c + d
 either-true true b {c} {d} f g e = let h = f refl in omega arith
@@ -61,10 +57,6 @@ tree-births : (left : ℕ) (t : Table) (class : ℕ) (st : List ℕ) → births 
 unfolding chains
 tree-births zero t class st = rules-births t 0 (λ s. shift nothing) (λ s. omega arith) (recordAt t class st .shift) st (recordAt t class st .rules)
 tree-births (suc left) t class st = rules-births t (suc left) (λ s. treeFrom left t class s) (λ s. tree-births left t class s) (recordAt t class st .shift) st (recordAt t class st .rules)
-
-pub all-append : {A : Type 0} (P : A → Type 0) (a b : List A) → AllOf P a → AllOf P b → AllOf P (a ++ b)
-all-append P [] b h g = g
-all-append P (x ∷ a) b h g = (h .0, all-append P a b (h .1) g)
 
 -- what was applied from birth n on: at most `few` readings and errors together, at most `more` births, and every reading stands
 pub record Within (n few more : ℕ) (o : Applied) : Type 0 where

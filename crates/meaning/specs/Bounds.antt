@@ -5,7 +5,6 @@ use Rattle.meaning.specs.Basics.{AllOf}
 use Rattle.meaning.specs.Limits.{maxReadings, maxHeight, maxChain, maxWalked, maxErrors}
 use Rattle.meaning.specs.Readings.{Reading}
 use Rattle.meaning.specs.Outcome.{Fed}
-use Rattle.meaning.specs.declared.Term.{Term}
 
 -- In each stage at most 16 chains of 32 reductions and a shift, and at most 16 error entries that grow.
 abbrev pub maxBirths : ℕ

@@ -1,7 +1,7 @@
 -- The calls, on all inputs: checks 1, 2, 3, 4, 5 in this order, then 6 to 11 as planning meets them.
 -- Two things are the buffers' business and come in as arguments: whether all lengths are right, and which readings a state buffer holds, `nothing` if it breaks the layout rules or names a state that the table lacks.
-use Prim.Native.Nat.{ℕ, _+_}
-use mathlib.Core.Bool.{Bool, true, false, not}
+use Prim.Native.Nat.{ℕ}
+use mathlib.Core.Bool.{Bool, not}
 use mathlib.Core.List.{List, [], _∷_, _++_, map}
 use lib.Dec.{leb, ltb}
 use lib.ListN.{length, getD, drop}

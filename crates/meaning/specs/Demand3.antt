@@ -3,7 +3,7 @@ use Prim.Native.Nat.{ℕ, _≤_}
 use mathlib.Core.Path.{_≡_}
 use mathlib.Core.Bool.{false}
 use mathlib.Core.List.{List, [], _∷_, map, reverse, List·Permᴰ, List·Memᴰ}
-use Rattle.meaning.specs.Basics.{Maybe, nothing, just, bind, each, flat, nth, AllOf}
+use Rattle.meaning.specs.Basics.{Maybe, just, bind, each, flat, nth, AllOf}
 use Rattle.meaning.specs.TableFile.{Table, ruleOf}
 use Rattle.meaning.specs.Readings.{Reading, states, plain}
 use Rattle.meaning.specs.Chains.{Chain, IsChain, recordAt, landing, chainsAt}

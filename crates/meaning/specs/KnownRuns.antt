@@ -1,8 +1,8 @@
 -- The runs with known outcome, P1 to P10, as one list: each starts a table file, feeds it terms, and says what the last call answers and leaves.
-use Prim.Native.Nat.{ℕ, zero, suc}
-use mathlib.Core.Bool.{Bool, true, false}
+use Prim.Native.Nat.{ℕ, _+_}
+use mathlib.Core.Bool.{true}
 use mathlib.Core.List.{List, [], _∷_, map, reverse}
-use Rattle.meaning.specs.Basics.{Maybe, nothing, just}
+use Rattle.meaning.specs.Basics.{nothing, just}
 use Rattle.meaning.specs.Readings.{Reading, seen}
 use Rattle.meaning.specs.TableFile.{stateNo}
 use Rattle.meaning.specs.Calls.{State, StartCall, startCall, FeedCall, feedCall}
@@ -46,7 +46,7 @@ unfoldable pub feedAll : (table : List ℕ) → State → List Term → (next : 
 feedAll table state [] next last = last
 feedAll table state (x ∷ more) next last =
     let c = feedCall true table state x [] next in
-    feedAll table (c .state) more (Prim.Native.Nat._+_ next 1000) (fed c)
+    feedAll table (c .state) more (next + 1000) (fed c)
 
 unfoldable pub outcome : Run → Outcome
 outcome r =

@@ -1,6 +1,5 @@
 -- The three questions: takes this class? can end? can recover? They change nothing.
 use Prim.Native.Nat.{ℕ}
-use mathlib.Core.Bool.{Bool, true, false}
 use mathlib.Core.List.{List, [], _∷_}
 use Rattle.meaning.specs.Basics.{if_then_else_}
 use Rattle.meaning.specs.TableFile.{Table, endClass, errorClass}

@@ -1,6 +1,6 @@
 -- Recovery: its two stages. It starts where no reading could be planned and the error class is used (Feeding).
 use Prim.Native.Nat.{ℕ, _+_}
-use mathlib.Core.Bool.{Bool, true, false}
+use mathlib.Core.Bool.{Bool}
 use mathlib.Core.List.{List, [], _∷_, _++_, map, reverse}
 use lib.Dec.{ltb}
 use Rattle.meaning.specs.Basics.{if_then_else_, isNil}
