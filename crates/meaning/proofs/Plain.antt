@@ -3,7 +3,7 @@ use Prim.Native.Nat.{ℕ, _+_}
 use mathlib.Core.Path.{_≡_, refl, sym, ap, ap₂, _∙_, subst}
 use mathlib.Core.List.{List, [], _∷_, _++_, map}
 use mathlib.Core.Bool.{Bool, true, false}
-use Rattle.meaning.specs.Basics.{if_then_else_, either, Maybe, nothing, just, listed}
+use Rattle.meaning.specs.Basics.{if_then_else_, Maybe, nothing, just, listed}
 use Rattle.meaning.specs.TableFile.{Table, ruleOf}
 use Rattle.meaning.specs.Readings.{Reading, plain}
 use Rattle.meaning.specs.Walk.{Walk, shift, reduce, ends}
@@ -12,7 +12,7 @@ use Rattle.meaning.specs.declared.Rule.{Rule}
 use Rattle.meaning.specs.declared.Term.{Term}
 use Rattle.meaning.specs.declared.ErrorRecord.{ErrorRecord}
 use Rattle.meaning.proofs.Renamed.{act-ren, reduced-ren, refused-ren}
-use Rattle.meaning.proofs.Tools.{IsTrue, map-append}
+use Rattle.meaning.proofs.Tools.{IsTrue, either-false, map-append}
 
 -- the readings that a walk gives; a dead end gives none by itself
 abbrev pub got : Table → Term → Walk → Reading → List Reading
@@ -31,18 +31,14 @@ errs t x (reduce k to below beside) r =
     (if ends below then orElse (actOn (ruleOf t k) (r .stack)) (λ v. errs t x below (reduced (ruleOf t k) to v r 0)) (refusedAction t k r ∷ []) else []) ++ errs t x beside r
 
 -- a walk in which no chain ends gives nothing
-or-false : (a b : Bool) → either a b ≡ false → (a ≡ false) × (b ≡ false)
-or-false true b e = (e, elim b as (λ (c : Bool). c ≡ false) [ true ↦ e | false ↦ refl ])
-or-false false b e = (refl, e)
-
 pub got-none : (t : Table) (x : Term) (w : Walk) (r : Reading) → ends w ≡ false → got t x w r ≡ []
 unfolding ends
 got-none t x (shift nothing) r e = refl
 got-none t x (shift (just to)) r e = absurd (subst IsTrue e tt)
 got-none t x (reduce k to below beside) r e =
     ap₂ {C = List Reading} (λ a b. a ++ b)
-    (none (actOn (ruleOf t k) (r .stack)) (λ v. got-none t x below (reduced (ruleOf t k) to v r 0) (or-false (ends below) (ends beside) e .0)))
-    (got-none t x beside r (or-false (ends below) (ends beside) e .1))
+    (none (actOn (ruleOf t k) (r .stack)) (λ v. got-none t x below (reduced (ruleOf t k) to v r 0) (either-false (ends below) (ends beside) e .0)))
+    (got-none t x beside r (either-false (ends below) (ends beside) e .1))
   where
     none : (m : Maybe ℕ) → ((v : ℕ) → got t x below (reduced (ruleOf t k) to v r 0) ≡ []) → listed m (λ v. got t x below (reduced (ruleOf t k) to v r 0)) ≡ []
     none nothing h = refl
@@ -53,8 +49,8 @@ unfolding ends
 errs-none t x (shift s) r e = refl
 errs-none t x (reduce k to below beside) r e =
     ap₂ {C = List ErrorRecord} (λ a b. a ++ b)
-    (ap (λ (b : Bool). if b then orElse (actOn (ruleOf t k) (r .stack)) (λ v. errs t x below (reduced (ruleOf t k) to v r 0)) (refusedAction t k r ∷ []) else []) (or-false (ends below) (ends beside) e .0))
-    (errs-none t x beside r (or-false (ends below) (ends beside) e .1))
+    (ap (λ (b : Bool). if b then orElse (actOn (ruleOf t k) (r .stack)) (λ v. errs t x below (reduced (ruleOf t k) to v r 0)) (refusedAction t k r ∷ []) else []) (either-false (ends below) (ends beside) e .0))
+    (errs-none t x beside r (either-false (ends below) (ends beside) e .1))
 
 pub apply-plain : (t : Table) (x : Term) (w : Walk) (r : Reading) (n : ℕ)
     → (map plain (apply t x w r n .results) ≡ got t x w (plain r)) × (apply t x w r n .errors ≡ errs t x w (plain r))

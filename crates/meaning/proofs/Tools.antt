@@ -6,7 +6,7 @@ use mathlib.Core.List.{List, [], _∷_, _++_, map, reverseAux}
 use lib.Dec.{T}
 use lib.ListN.{length}
 use native.Mathlib.Omega.{arith}
-use Rattle.meaning.specs.Basics.{isNil, AllOf}
+use Rattle.meaning.specs.Basics.{either, isNil, AllOf}
 
 -- Tests.
 
@@ -20,6 +20,10 @@ is-true false h = absurd h
 
 pub is-false : {b : Bool} → b ≡ false → T (not b)
 is-false e = subst (λ (b : Bool). T (not b)) (sym e) tt
+
+pub either-false : (a b : Bool) → either a b ≡ false → (a ≡ false) × (b ≡ false)
+either-false true b e = absurd (subst IsTrue e tt)
+either-false false b e = (refl, e)
 
 -- Lists.
 

@@ -6,15 +6,15 @@ use mathlib.Core.Bool.{Bool, true, false}
 use lib.ListN.{length, getD, drop}
 use lib.Dec.{leb, ltb, eqb, T, ltb→lt, lt→ltb, nleb→lt}
 use native.Mathlib.Omega.{arith}
-use Rattle.meaning.specs.Basics.{if_then_else_, both, Maybe, nothing, just}
+use Rattle.meaning.specs.Basics.{if_then_else_, both, either, Maybe, nothing, just}
 use Rattle.meaning.specs.TableFile.{Table, ActionRecord, gotoOf, ruleOf}
 use Rattle.meaning.specs.TableRight.{shifts}
 use Rattle.meaning.specs.Chains.{recordAt, landing}
-use Rattle.meaning.specs.Walk.{Walk, shift, reduce, Walked, refused, walked, andThen, endChain, orNoGoto, reduction, walkRules, walkState, walkFrom, size, chains}
+use Rattle.meaning.specs.Walk.{Walk, shift, reduce, Walked, refused, walked, andThen, endChain, orNoGoto, reduction, walkRules, walkState, walkFrom, ends, size, chains}
 use Rattle.meaning.specs.declared.Rule.{Rule}
 use Rattle.meaning.specs.declared.Refusal.{Refusal}
 use Rattle.meaning.specs.declared.Refusal.the-variants.{ReachesStart, TooHigh, ChainTooLong, WalkTooLong, TooManyReadings}
-use Rattle.meaning.proofs.Tools.{is-true, is-false}
+use Rattle.meaning.proofs.Tools.{IsTrue, is-true, is-false, either-false}
 
 abbrev pub treeStep : Maybe ℕ → ℕ → (ℕ → Walk) → Walk → Walk
 treeStep nothing k deeper beside = beside
@@ -27,6 +27,27 @@ treeBy t deeper sh st (k ∷ ks) = treeStep (landing t (ruleOf t k) st) k (λ to
 abbrev pub treeFrom : (left : ℕ) → Table → (cls : ℕ) → List ℕ → Walk
 treeFrom zero t cls st = treeBy t (λ s. shift nothing) (recordAt t cls st .shift) st (recordAt t cls st .rules)
 treeFrom (suc left) t cls st = treeBy t (λ s. treeFrom left t cls s) (recordAt t cls st .shift) st (recordAt t cls st .rules)
+
+-- A reading is planned exactly if the walk has a chain.
+either-true : (a b : Bool) {c d : ℕ} → (a ≡ true → 1 ≤ c) → (b ≡ true → 1 ≤ d) → either a b ≡ true → 1 ≤ c + d
+either-true true b {c} {d} f g e = let h = f refl in omega arith
+either-true false b {c} {d} f g e = let h = g e in omega arith
+
+pub ends-chain : (w : Walk) → ends w ≡ true → 1 ≤ chains w
+unfolding ends chains
+ends-chain (shift nothing) e = absurd (subst IsTrue (sym e) tt)
+ends-chain (shift (just to)) e = omega arith
+ends-chain (reduce k to below beside) e = either-true (ends below) (ends beside) (ends-chain below) (ends-chain beside) e
+
+pub no-chain : (w : Walk) → ends w ≡ false → chains w ≡ 0
+unfolding ends chains
+no-chain (shift nothing) e = refl
+no-chain (shift (just to)) e = absurd (subst IsTrue e tt)
+no-chain (reduce k to below beside) e =
+    let h = either-false (ends below) (ends beside) e in
+    let a = no-chain below (h .0) in
+    let b = no-chain beside (h .1) in
+    omega arith
 
 -- inversion
 abbrev isWalked : Walked → Type 0

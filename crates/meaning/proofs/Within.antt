@@ -5,7 +5,7 @@ use mathlib.Core.List.{List, [], _∷_}
 use mathlib.Core.Bool.{Bool, true, false}
 use lib.ListN.{length, drop, length-append, length-drop}
 use native.Mathlib.Omega.{arith}
-use Rattle.meaning.specs.Basics.{if_then_else_, either, Maybe, nothing, just, AllOf}
+use Rattle.meaning.specs.Basics.{if_then_else_, Maybe, nothing, just, AllOf}
 use Rattle.meaning.specs.TableFile.{Table, ruleOf}
 use Rattle.meaning.specs.Readings.{Entry, Reading, states}
 use Rattle.meaning.specs.Chains.{recordAt, landing}
@@ -13,24 +13,14 @@ use Rattle.meaning.specs.Walk.{Walk, shift, reduce, walked, plan, ends, 
 use Rattle.meaning.specs.Applying.{actOn, reduced, shifted, refusedAction, Applied, nothingApplied, oneError, joined, ifActs, apply}
 use Rattle.meaning.specs.Bounds.{Standing}
 use Rattle.meaning.specs.declared.Term.{Term}
-use Rattle.meaning.proofs.Trees.{treeStep, treeBy, treeFrom, walk-is}
+use Rattle.meaning.proofs.Trees.{treeStep, treeBy, treeFrom, walk-is, ends-chain}
 use Rattle.meaning.proofs.Heights.{Low, walk-low}
-use Rattle.meaning.proofs.Tools.{IsTrue, all-append}
+use Rattle.meaning.proofs.Tools.{all-append}
 
 -- the births that applying a walk may come to
 abbrev births : Walk → ℕ
 births (shift sh) = one sh
 births (reduce k to below beside) = (if ends below then 1 + births below else 0) + births beside
-
-either-true : (a b : Bool) {c d : ℕ} → (a ≡ true → 1 ≤ c) → (b ≡ true → 1 ≤ d) → either a b ≡ true → 1 ≤ c + d
-either-true true b {c} {d} f g e = let h = f refl in omega arith
-either-true false b {c} {d} f g e = let h = g e in omega arith
-
-ends-chain : (w : Walk) → ends w ≡ true → 1 ≤ chains w
-unfolding ends chains
-ends-chain (shift nothing) e = absurd (subst IsTrue (sym e) tt)
-ends-chain (shift (just to)) e = omega arith
-ends-chain (reduce k to below beside) e = either-true (ends below) (ends beside) (ends-chain below) (ends-chain beside) e
 
 -- A chain of l reductions has at most l + 1 births, so a tree has at most that many for each of its chains.
 births-step : (b : Bool) (l nb cb nd cd : ℕ) → (b ≡ true → 1 ≤ cb) → nb ≤ l * cb → nd ≤ suc l * cd → (if b then 1 + nb else 0) + nd ≤ suc l * (cb + cd)
