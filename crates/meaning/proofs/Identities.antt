@@ -21,7 +21,9 @@ use Rattle.meaning.specs.declared.ErrorRecord.{ErrorRecord}
 use Rattle.meaning.specs.declared.Refusal.the-variants.{TooManyReadings}
 use Rattle.meaning.proofs.Tools.{map-append, map-reverse, nil-map, all-append}
 use Rattle.meaning.proofs.Renamed.{states-ren, span-ren, end-ren, act-ren, reduced-ren, refused-ren, unplanned-all}
-use Rattle.meaning.proofs.Owned.{OwnedStack, Owned, own-readings, Made, made-none, made-joined, MadeOf, recover-made, recoverAll-made, apply-grows}
+use Rattle.meaning.proofs.Leads.{TargetsIn}
+use Rattle.meaning.proofs.Kept.{OfEntries, Made, made-none, made-joined, MadeOf, Passes, recover-made, recoverAll-made, apply-grows}
+use Rattle.meaning.proofs.Held.{own-readings}
 
 same-bool : (u v : Bool) → (T u → T v) → (T v → T u) → u ≡ v
 same-bool true true f g = refl
@@ -44,6 +46,19 @@ module _ (ρ : ℕ → ℕ) where
 
 -- ρ keeps the births from n₀ on in their order, and keeps apart the identities that occur
 module _ (ρ : ℕ → ℕ) (n₀ : ℕ) (P : ℕ → Type 0) (apart : (a b : ℕ) → P a → P b → ρ a ≡ ρ b → a ≡ b) (births : (m : ℕ) → n₀ ≤ m → ρ (m + 1) ≡ ρ m + 1) (born : (m : ℕ) → n₀ ≤ m → P m) (t : Table) where
+  -- P of an entry's identity; any state will do
+  abbrev Own : Entry → Type 0
+  Own e = P (e .born)
+
+  abbrev Any : ℕ → Type 0
+  Any to = Unit {0}
+
+  own-passes : Passes Own Any n₀
+  own-passes = record { born = λ e l k. born (e .born) l; longer = λ e end n l h. born n l }
+
+  any-targets : TargetsIn Any t
+  any-targets = record { gotos = λ state left to e. tt; shifted = λ state class to e. tt }
+
   apply-ren : (x : Term) (w : Walk) (r : Reading) (n : ℕ) → n₀ ≤ n → apply t x w (rr ρ r) (ρ n) ≡ ro ρ (apply t x w r n)
   unfolding apply shifted
   apply-ren x (shift nothing) r n l = refl
@@ -125,12 +140,12 @@ module _ (ρ : ℕ → ℕ) (n₀ : ℕ) (P : ℕ → Type 0) (apart : (a b : �
       (λ h. subst (λ (c : ℕ). T (eqb a c)) (apart a b p q (eqb→eq (ρ a) (ρ b) h)) (eqb-refl a))
       (λ h. subst (λ (c : ℕ). T (eqb (ρ a) (ρ c))) (eqb→eq a b h) (eqb-refl (ρ a)))
 
-  holds-ren : (s : List Entry) (b : ℕ) → OwnedStack P s → P b → holds (map (re ρ) s) (ρ b) ≡ holds s b
+  holds-ren : (s : List Entry) (b : ℕ) → AllOf Own s → P b → holds (map (re ρ) s) (ρ b) ≡ holds s b
   unfolding holds
   holds-ren [] b h p = refl
   holds-ren (e ∷ s) b h p = ap₂ {C = Bool} (λ u v. either u v) (eqb-ren (e .born) b (h .0) p) (holds-ren s b (h .1) p)
 
-  held-ren : (rs : List Reading) (b : ℕ) → AllOf (Owned P) rs → P b → heldBy (map (rr ρ) rs) (ρ b) ≡ heldBy rs b
+  held-ren : (rs : List Reading) (b : ℕ) → AllOf (OfEntries Own) rs → P b → heldBy (map (rr ρ) rs) (ρ b) ≡ heldBy rs b
   unfolding heldBy
   held-ren [] b h p = refl
   held-ren (r ∷ rs) b h p = ap₂ {C = Bool} (λ u v. either u v) (holds-ren (r .stack) b (h .0) p) (held-ren rs b (h .1) p)
@@ -153,7 +168,7 @@ module _ (ρ : ℕ → ℕ) (n₀ : ℕ) (P : ℕ → Type 0) (apart : (a b : �
   unfolding errorTerm
   errorTerm-ren whole p = ap₂ {C = Term} (λ (a b : ℕ). record { class = 1; value = 0; start = a; end = b }) (span-ren ρ whole p) (end-ren ρ whole)
 
-  recoverOne-ren : (held : List Reading) (m : ℕ) (rest whole : List Entry) (p n w c : ℕ) → n₀ ≤ n → AllOf (Owned P) held → OwnedStack P rest
+  recoverOne-ren : (held : List Reading) (m : ℕ) (rest whole : List Entry) (p n w c : ℕ) → n₀ ≤ n → AllOf (OfEntries Own) held → AllOf Own rest
       → recoverOne t (map (rr ρ) held) m (map (re ρ) rest) (map (re ρ) whole) p (ρ n) w c ≡ rs (recoverOne t held m rest whole p n w c)
   unfolding recoverOne isHeld
   recoverOne-ren held m [] whole p n w c l h o = refl
@@ -181,15 +196,15 @@ module _ (ρ : ℕ → ℕ) (n₀ : ℕ) (P : ℕ → Type 0) (apart : (a b : �
       found-ren : (tree : Walk) (k c′ : ℕ) → found′ tree k c′ ≡ rs (found tree k c′)
       found-ren tree k c′ = ap (λ (o′ : Applied). came o′ (w + k) c′) (ap (λ (y : Term). apply t y tree (rr ρ r) (ρ n)) (errorTerm-ren whole p) ∙ apply-ren (errorTerm whole p) tree r n l)
 
-  recoverAll-ren : (ls : List Reading) (d : Applied) (w c : ℕ) → Made P n₀ d → AllOf (Owned P) ls → recoverAll t (map (rr ρ) ls) (ro ρ d) w c ≡ rs (recoverAll t ls d w c)
+  recoverAll-ren : (ls : List Reading) (d : Applied) (w c : ℕ) → Made Own n₀ d → AllOf (OfEntries Own) ls → recoverAll t (map (rr ρ) ls) (ro ρ d) w c ≡ rs (recoverAll t ls d w c)
   unfolding recoverAll
   recoverAll-ren [] d w c h o = refl
   recoverAll-ren (r ∷ ls) d w c h o =
       ap (λ (held : List Reading). thenStage (recoverOne t held (r .mark) (map (re ρ) (r .stack)) (map (re ρ) (r .stack)) 0 (ρ (d .next)) w c) on′) (sym (map-append (rr ρ) ls (d .results)))
       ∙ ap (λ (p : Stage). thenStage p on′)
-      (recoverOne-ren (ls ++ d .results) (r .mark) (r .stack) (r .stack) 0 (d .next) w c (h .grows) (all-append (Owned P) ls (d .results) (o .1) (h .owned)) (o .0))
+      (recoverOne-ren (ls ++ d .results) (r .mark) (r .stack) (r .stack) 0 (d .next) w c (h .grows) (all-append (OfEntries Own) ls (d .results) (o .1) (h .of)) (o .0))
       ∙ then-ren (recoverOne t (ls ++ d .results) (r .mark) (r .stack) (r .stack) 0 (d .next) w c)
-      (recover-made P n₀ born t (ls ++ d .results) (r .mark) (r .stack) (r .stack) 0 (d .next) w c (h .grows) (o .0))
+      (recover-made Own Any n₀ own-passes t any-targets (ls ++ d .results) (r .mark) (r .stack) (r .stack) 0 (d .next) w c (h .grows) (o .0))
       (λ a w′ c′ h′. recoverAll-ren ls (joined d a) w′ c′ h′ (o .1))
     where
       on : Applied → ℕ → ℕ → Stage
@@ -198,11 +213,11 @@ module _ (ρ : ℕ → ℕ) (n₀ : ℕ) (P : ℕ → Type 0) (apart : (a b : �
       on′ : Applied → ℕ → ℕ → Stage
       on′ a w′ c′ = recoverAll t (map (rr ρ) ls) (joined (ro ρ d) a) w′ c′
 
-      then-ren : (p : Stage) → MadeOf P n₀ born t (d .next) p → ((a : Applied) (w′ c′ : ℕ) → Made P n₀ (joined d a) → recoverAll t (map (rr ρ) ls) (ro ρ (joined d a)) w′ c′ ≡ rs (on a w′ c′))
+      then-ren : (p : Stage) → MadeOf Own (d .next) p → ((a : Applied) (w′ c′ : ℕ) → Made Own n₀ (joined d a) → recoverAll t (map (rr ρ) ls) (ro ρ (joined d a)) w′ c′ ≡ rs (on a w′ c′))
           → thenStage (rs p) on′ ≡ rs (thenStage p on)
       then-ren (stopped k) g go = refl
       then-ren (came a w′ c′) g go =
-          ap (λ (b : Applied). recoverAll t (map (rr ρ) ls) b w′ c′) (joined-ren ρ d a) ∙ go a w′ c′ (made-joined P n₀ d a h g)
+          ap (λ (b : Applied). recoverAll t (map (rr ρ) ls) b w′ c′) (joined-ren ρ d a) ∙ go a w′ c′ (made-joined Own n₀ d a h g)
 
   longer-ren : (s : List Entry) (e n : ℕ) → longerTop (map (re ρ) s) e (ρ n) ≡ map (re ρ) (longerTop s e n)
   unfolding longerTop
@@ -257,7 +272,7 @@ module _ (ρ : ℕ → ℕ) (n₀ : ℕ) (P : ℕ → Type 0) (apart : (a b : �
   unplanned-reversed : (ls : List Reading) → map unplanned (reverse (map (rr ρ) ls)) ≡ map unplanned (reverse ls)
   unplanned-reversed ls = ap (map unplanned) (sym (map-reverse (rr ρ) ls [])) ∙ unplanned-all ρ (reverse ls)
 
-  afterRecovery-ren : (x : Term) (ls : List Reading) (n : ℕ) (p : Stage) → MadeOf P n₀ born t n₀ p → afterRecovery t x (map (rr ρ) ls) (ρ n) (rs p) ≡ renFed ρ (afterRecovery t x ls n p)
+  afterRecovery-ren : (x : Term) (ls : List Reading) (n : ℕ) (p : Stage) → MadeOf Own n₀ p → afterRecovery t x (map (rr ρ) ls) (ρ n) (rs p) ≡ renFed ρ (afterRecovery t x ls n p)
   afterRecovery-ren x ls n (stopped k) h = refl
   afterRecovery-ren x ls n (came d w c) h =
       ap (λ (b : Bool). if b then noneRecovered (map (rr ρ) ls) (ro ρ d) w else go′) (nil-map (rr ρ) (d .results))
@@ -303,15 +318,15 @@ module _ (ρ : ℕ → ℕ) (n₀ : ℕ) (P : ℕ → Type 0) (apart : (a b : �
   firstOf-ren x n l (noPlan k) = refl
   firstOf-ren x n l (plans ps left w c) = ap (settle t (rps ps) (map (rr ρ) left) w) (applyAll-ren x ps n l) ∙ settle-ren ps left w (applyAll t x ps n)
 
-  finish-ren : (x : Term) (ls : List Reading) → AllOf (Owned P) ls → (f : First) → finish t x (map (rr ρ) ls) (ρ n₀) (rfirst f) ≡ renFed ρ (finish t x ls n₀ f)
+  finish-ren : (x : Term) (ls : List Reading) → AllOf (OfEntries Own) ls → (f : First) → finish t x (map (rr ρ) ls) (ρ n₀) (rfirst f) ≡ renFed ρ (finish t x ls n₀ f)
   unfolding recover
   finish-ren x ls o (refuses k) = refl
   finish-ren x ls o (settles f) = refl
   finish-ren x ls o (mustRecover w) =
-      ap (afterRecovery t x (map (rr ρ) ls) (ρ n₀)) (recoverAll-ren ls (nothingApplied n₀) w 0 (made-none P n₀) o)
-      ∙ afterRecovery-ren x ls n₀ (recoverAll t ls (nothingApplied n₀) w 0) (recoverAll-made P n₀ born t ls (nothingApplied n₀) w 0 o (made-none P n₀))
+      ap (afterRecovery t x (map (rr ρ) ls) (ρ n₀)) (recoverAll-ren ls (nothingApplied n₀) w 0 (made-none Own n₀) o)
+      ∙ afterRecovery-ren x ls n₀ (recoverAll t ls (nothingApplied n₀) w 0) (recoverAll-made Own Any n₀ own-passes t any-targets ls (nothingApplied n₀) w 0 o (made-none Own n₀))
 
-  feed-ren : (x : Term) (ls : List Reading) → AllOf (Owned P) ls → feed t x (map (rr ρ) ls) (ρ n₀) ≡ renFed ρ (feed t x ls n₀)
+  feed-ren : (x : Term) (ls : List Reading) → AllOf (OfEntries Own) ls → feed t x (map (rr ρ) ls) (ρ n₀) ≡ renFed ρ (feed t x ls n₀)
   unfolding feed first
   feed-ren x ls o =
       ap (finish t x (map (rr ρ) ls) (ρ n₀))

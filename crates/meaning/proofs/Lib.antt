@@ -11,7 +11,10 @@ pub mod Demand3
 pub mod Heights
 pub mod Within
 pub mod Bounds
-pub mod Owned
+pub mod Leads
+pub mod Kept
+pub mod States
+pub mod Held
 pub mod Identities
 pub mod Questions
 pub mod Known
