@@ -3,9 +3,10 @@
 use std::fmt::Display;
 use std::path::Path;
 
-// A text's line with its number, and what went wrong there.
-type Line<'a> = (usize, &'a str);
-type Written<T> = Result<T, (usize, String)>;
+// A line of a text with its place, the text's file and the line's number; and what is written, or where and why nothing is.
+type Place<'a> = (&'a Path, usize);
+type Line<'a> = (Place<'a>, &'a str);
+type Written<T> = Result<T, String>;
 
 // What a text names: states, classes and nonterminals, each by its position in its list.
 #[derive(Default)]
@@ -15,24 +16,27 @@ struct Names {
     nonterminals: Vec<String>,
 }
 
-// A field while it is written. Tag and length are those of the data unless the text says others.
-struct Field {
+// A field while it is written, and the line that it begins at. Tag and length are those of the data unless the text says others.
+struct Field<'a> {
+    at: Place<'a>,
     tag: u8,
     length: Option<u16>,
     bare: bool,
     data: Vec<u8>,
 }
 
-fn wrong<T>(at: usize, what: impl Display) -> Written<T> {
-    Err((at, what.to_string()))
+fn wrong<T>((text, line): Place, what: impl Display) -> Written<T> {
+    Err(format!("{}:{line}: {what}", text.display()))
 }
 
-fn number<N: std::str::FromStr>(at: usize, word: &str) -> Written<N> {
-    word.trim().parse().or_else(|_| wrong(at, format!("'{}' is no number that fits here", word.trim())))
+fn number<N: std::str::FromStr>(at: Place, word: &str) -> Written<N> {
+    word.trim()
+        .parse()
+        .or_else(|_| wrong(at, format!("'{}' is no number that fits here", word.trim())))
 }
 
 // A number, or a name of the list.
-fn numbered(at: usize, word: &str, names: &[String]) -> Written<u16> {
+fn numbered(at: Place, word: &str, names: &[String]) -> Written<u16> {
     let word = word.trim();
     match names.iter().position(|name| name == word) {
         Some(i) => Ok(i as u16),
@@ -42,7 +46,7 @@ fn numbered(at: usize, word: &str, names: &[String]) -> Written<u16> {
 }
 
 // A number or a name, or a range of them: 0..63.
-fn range(at: usize, word: &str, names: &[String]) -> Written<std::ops::RangeInclusive<u16>> {
+fn range(at: Place, word: &str, names: &[String]) -> Written<std::ops::RangeInclusive<u16>> {
     match word.split_once("..") {
         Some((from, to)) => Ok(numbered(at, from, names)?..=numbered(at, to, names)?),
         None => numbered(at, word, names).map(|n| n..=n),
@@ -50,15 +54,19 @@ fn range(at: usize, word: &str, names: &[String]) -> Written<std::ops::RangeIncl
 }
 
 // The word after a key, as `pick` in "Check 1..12 pick 1".
-fn after<'a>(at: usize, words: &[&'a str], key: &str) -> Written<&'a str> {
-    match words.iter().position(|w| *w == key).and_then(|i| words.get(i + 1)) {
+fn after<'a>(at: Place, words: &[&'a str], key: &str) -> Written<&'a str> {
+    match words
+        .iter()
+        .position(|w| *w == key)
+        .and_then(|i| words.get(i + 1))
+    {
         Some(word) => Ok(word),
         None => wrong(at, format!("'{key}' and a number are missing")),
     }
 }
 
 // Kind, pick, low and high: "Zero", "Pick 1", "Join 60 pick 2", "Check 1..12 pick 1", "kind 4 pick 1 low 2 high 3".
-fn kind(at: usize, text: &str) -> Written<(u8, u8, u32, u32)> {
+fn kind(at: Place, text: &str) -> Written<(u8, u8, u32, u32)> {
     let words: Vec<&str> = text.split_whitespace().collect();
     match words.as_slice() {
         ["Zero"] => Ok((0, 0, 0, 0)),
@@ -68,15 +76,18 @@ fn kind(at: usize, text: &str) -> Written<(u8, u8, u32, u32)> {
             Some((low, high)) => Ok((3, number(at, pick)?, number(at, low)?, number(at, high)?)),
             None => wrong(at, "Check wants LOW..HIGH"),
         },
-        ["kind", kind, "pick", pick, "low", low, "high", high] => {
-            Ok((number(at, kind)?, number(at, pick)?, number(at, low)?, number(at, high)?))
-        }
+        ["kind", kind, "pick", pick, "low", low, "high", high] => Ok((
+            number(at, kind)?,
+            number(at, pick)?,
+            number(at, low)?,
+            number(at, high)?,
+        )),
         _ => wrong(at, format!("no such kind: '{text}'")),
     }
 }
 
 // "A <- 1 item, Check 1..12 pick 1, mark 1", with "252 times" in front for that many.
-fn rule(at: usize, text: &str, names: &Names) -> Written<Vec<u8>> {
+fn rule(at: Place, text: &str, names: &Names) -> Written<Vec<u8>> {
     let (times, text) = match text.split_once(" times ") {
         Some((times, rest)) => (number(at, times)?, rest),
         None => (1, text),
@@ -93,15 +104,25 @@ fn rule(at: usize, text: &str, names: &Names) -> Written<Vec<u8>> {
         return wrong(at, "a rule says how many items it has");
     };
     let (kind, pick, low, high) = kind(at, gives)?;
-    let mark: u32 = number(at, after(at, &mark.split_whitespace().collect::<Vec<_>>(), "mark")?)?;
-    let mut one = numbered(at, left, &names.nonterminals)?.to_be_bytes().to_vec();
+    let mark: u32 = number(
+        at,
+        after(at, &mark.split_whitespace().collect::<Vec<_>>(), "mark")?,
+    )?;
+    let mut one = numbered(at, left, &names.nonterminals)?
+        .to_be_bytes()
+        .to_vec();
     one.extend([number(at, count)?, kind, pick]);
     one.extend([mark, low, high].iter().flat_map(|n| n.to_be_bytes()));
     Ok(one.repeat(times))
 }
 
 // "(STATE, OTHER) REST": every pair of the two ranges, in order, and the rest.
-fn pairs<'a>(at: usize, text: &'a str, names: &Names, others: &[String]) -> Written<(Vec<[u16; 2]>, &'a str)> {
+fn pairs<'a>(
+    at: Place,
+    text: &'a str,
+    names: &Names,
+    others: &[String],
+) -> Written<(Vec<[u16; 2]>, &'a str)> {
     let Some(((state, other), rest)) = text
         .strip_prefix('(')
         .and_then(|t| t.split_once(')'))
@@ -111,11 +132,16 @@ fn pairs<'a>(at: usize, text: &'a str, names: &Names, others: &[String]) -> Writ
     };
     let others = range(at, other, others)?;
     let states = range(at, state, &names.states)?;
-    Ok((states.flat_map(|s| others.clone().map(move |o| [s, o])).collect(), rest))
+    Ok((
+        states
+            .flat_map(|s| others.clone().map(move |o| [s, o]))
+            .collect(),
+        rest,
+    ))
 }
 
 // What an action does: "shift 2", "rules 0 1", "shift 2, rules 4", "nothing".
-fn action_end(at: usize, text: &str, names: &Names) -> Written<Vec<u8>> {
+fn action_end(at: Place, text: &str, names: &Names) -> Written<Vec<u8>> {
     let mut target = 65535;
     let mut rules: Vec<u16> = vec![];
     for part in text.split(',').map(str::trim) {
@@ -137,29 +163,41 @@ fn action_end(at: usize, text: &str, names: &Names) -> Written<Vec<u8>> {
     Ok(end)
 }
 
-fn action(at: usize, text: &str, names: &Names) -> Written<Vec<u8>> {
+fn action(at: Place, text: &str, names: &Names) -> Written<Vec<u8>> {
     let (keys, rest) = pairs(at, text, names, &names.classes)?;
     let end = action_end(at, rest, names)?;
-    Ok(keys.iter().flat_map(|key| key.iter().flat_map(|n| n.to_be_bytes()).chain(end.clone())).collect())
+    Ok(keys
+        .iter()
+        .flat_map(|key| key.iter().flat_map(|n| n.to_be_bytes()).chain(end.clone()))
+        .collect())
 }
 
-fn goto(at: usize, text: &str, names: &Names) -> Written<Vec<u8>> {
+fn goto(at: Place, text: &str, names: &Names) -> Written<Vec<u8>> {
     let (keys, to) = pairs(at, text, names, &names.nonterminals)?;
     let to = numbered(at, to, &names.states)?;
-    Ok(keys.iter().flat_map(|key| [key[0], key[1], to]).flat_map(|n| n.to_be_bytes()).collect())
+    Ok(keys
+        .iter()
+        .flat_map(|key| [key[0], key[1], to])
+        .flat_map(|n| n.to_be_bytes())
+        .collect())
 }
 
 // "states 8" and its like: what field 1 says.
-fn count(at: usize, text: &str) -> Written<Vec<u8>> {
+fn count(at: Place, text: &str) -> Written<Vec<u8>> {
     let words: Vec<&str> = text.split_whitespace().collect();
     match words.as_slice() {
-        ["states" | "classes" | "nonterminals" | "rules", n] => Ok(number::<u16>(at, n)?.to_be_bytes().to_vec()),
-        _ => wrong(at, "a count is states, classes, nonterminals or rules, and a number"),
+        ["states" | "classes" | "nonterminals" | "rules", n] => {
+            Ok(number::<u16>(at, n)?.to_be_bytes().to_vec())
+        }
+        _ => wrong(
+            at,
+            "a count is states, classes, nonterminals or rules, and a number",
+        ),
     }
 }
 
 // The line that begins a field, or the bytes behind the last one.
-fn head(at: usize, line: &str) -> Written<Option<Field>> {
+fn head<'a>(at: Place<'a>, line: &str) -> Written<Option<Field<'a>>> {
     let words: Vec<&str> = line.split_whitespace().collect();
     let (tag, data) = match words.as_slice() {
         ["counts"] => (1, vec![]),
@@ -172,12 +210,21 @@ fn head(at: usize, line: &str) -> Written<Option<Field>> {
         ["behind"] => (0, vec![]),
         _ => return Ok(None),
     };
-    Ok(Some(Field { tag, length: None, bare: tag == 0, data }))
+    Ok(Some(Field {
+        at,
+        tag,
+        length: None,
+        bare: tag == 0,
+        data,
+    }))
 }
 
 // Names are for the text alone: "names of states: begin line word".
-fn name(at: usize, line: &str, names: &mut Names) -> Written<bool> {
-    let Some((what, list)) = line.strip_prefix("names of ").and_then(|l| l.split_once(':')) else {
+fn name(at: Place, line: &str, names: &mut Names) -> Written<bool> {
+    let Some((what, list)) = line
+        .strip_prefix("names of ")
+        .and_then(|l| l.split_once(':'))
+    else {
         return Ok(false);
     };
     let list = list.split_whitespace().map(str::to_string).collect();
@@ -185,13 +232,18 @@ fn name(at: usize, line: &str, names: &mut Names) -> Written<bool> {
         "states" => names.states = list,
         "classes" => names.classes = list,
         "nonterminals" => names.nonterminals = list,
-        _ => return wrong(at, format!("names of states, classes or nonterminals, not of {what}")),
+        _ => {
+            return wrong(
+                at,
+                format!("names of states, classes or nonterminals, not of {what}"),
+            )
+        }
     }
     Ok(true)
 }
 
 // A line inside a field: what it says for every field, else by the field that it stands in.
-fn fill(at: usize, line: &str, part: u8, field: &mut Field, names: &Names) -> Written<()> {
+fn fill(at: Place, line: &str, part: u8, field: &mut Field, names: &Names) -> Written<()> {
     let words: Vec<&str> = line.split_whitespace().collect();
     let more = match words.as_slice() {
         ["tag", n] => {
@@ -202,7 +254,10 @@ fn fill(at: usize, line: &str, part: u8, field: &mut Field, names: &Names) -> Wr
             field.length = Some(number(at, n)?);
             vec![]
         }
-        ["bytes", bytes @ ..] => bytes.iter().map(|b| number(at, b)).collect::<Written<Vec<u8>>>()?,
+        ["bytes", bytes @ ..] => bytes
+            .iter()
+            .map(|b| number(at, b))
+            .collect::<Written<Vec<u8>>>()?,
         _ => match part {
             1 => count(at, line)?,
             2 => rule(at, line, names)?,
@@ -239,7 +294,7 @@ fn table(lines: &[Line]) -> Written<Vec<u8>> {
         if !field.bare {
             let length = match field.length {
                 Some(n) => n,
-                None => number(0, &field.data.len().to_string())?,
+                None => number(field.at, &field.data.len().to_string())?,
             };
             bytes.push(field.tag);
             bytes.extend(length.to_be_bytes());
@@ -251,9 +306,13 @@ fn table(lines: &[Line]) -> Written<Vec<u8>> {
 }
 
 // The lines of a text that say something.
-fn lines_of(text: &str) -> Vec<Line<'_>> {
-    let said = |line: &'_ str| line.find('#').unwrap_or(line.len());
-    text.lines().enumerate().map(|(i, l)| (i + 1, l[..said(l)].trim())).filter(|(_, l)| !l.is_empty()).collect()
+fn lines_of<'a>(path: &'a Path, text: &'a str) -> Vec<Line<'a>> {
+    let said = |line: &str| line.find('#').unwrap_or(line.len());
+    text.lines()
+        .enumerate()
+        .map(|(i, l)| ((path, i + 1), l[..said(l)].trim()))
+        .filter(|(_, l)| !l.is_empty())
+        .collect()
 }
 
 // Takes "- OLD" and "+ NEW" lines into the lines of a base: each OLD stands there once, and the NEW lines below take its place.
@@ -264,7 +323,10 @@ fn changed<'a>(base: &[Line<'a>], edits: &[Line<'a>]) -> Written<Vec<Line<'a>>> 
         if let Some(old) = edit.strip_prefix("- ").map(str::trim) {
             let found: Vec<usize> = (0..lines.len()).filter(|i| lines[*i].1 == old).collect();
             let [only] = found.as_slice() else {
-                return wrong(at, format!("'{old}' stands {} times in the base", found.len()));
+                return wrong(
+                    at,
+                    format!("'{old}' stands {} times in the base", found.len()),
+                );
             };
             place = *only;
             lines.remove(place);
@@ -288,10 +350,11 @@ fn read(path: &Path) -> String {
 }
 
 // Writes a file and its name on standard output.
-fn write(text: &Path, folder: &Path, name: &str, bytes: Written<Vec<u8>>) {
+fn write(folder: &Path, name: &str, bytes: Written<Vec<u8>>) {
     match bytes {
-        Ok(bytes) => std::fs::write(folder.join(name), bytes).unwrap_or_else(|e| fail(format!("{name}: {e}"))),
-        Err((at, what)) => fail(format!("{}:{at}: {what}", text.display())),
+        Ok(bytes) => std::fs::write(folder.join(name), bytes)
+            .unwrap_or_else(|e| fail(format!("{name}: {e}"))),
+        Err(what) => fail(what),
     }
     println!("{name}");
 }
@@ -300,27 +363,47 @@ fn write(text: &Path, folder: &Path, name: &str, bytes: Written<Vec<u8>>) {
 fn write_changed(path: &Path, folder: &Path, lines: &[Line]) {
     let mut rest = lines;
     while let [(at, first), more @ ..] = rest {
-        let Some((name, base)) = first.strip_prefix("file ").and_then(|l| l.split_once(" from ")) else {
-            fail(format!("{}:{at}: file NAME from TEXT is missing", path.display()));
+        let Some((name, base)) = first
+            .strip_prefix("file ")
+            .and_then(|l| l.split_once(" from "))
+        else {
+            fail(format!(
+                "{}:{}: file NAME from TEXT is missing",
+                path.display(),
+                at.1
+            ));
         };
-        let end = more.iter().position(|(_, l)| l.starts_with("file ")).unwrap_or(more.len());
-        let base = read(&path.with_file_name(base));
-        write(path, folder, name, changed(&lines_of(&base), &more[..end]).and_then(|all| table(&all)));
+        let end = more
+            .iter()
+            .position(|(_, l)| l.starts_with("file "))
+            .unwrap_or(more.len());
+        let base = path.with_file_name(base);
+        let text = read(&base);
+        write(
+            folder,
+            name,
+            changed(&lines_of(&base, &text), &more[..end]).and_then(|all| table(&all)),
+        );
         rest = &more[end..];
     }
 }
 
 fn main() {
     let args: Vec<String> = std::env::args().skip(1).collect();
-    let [folder, texts @ ..] = args.as_slice() else { fail("table FOLDER TEXT..: writes the table files of the texts into the folder") };
+    let [folder, texts @ ..] = args.as_slice() else {
+        fail("table FOLDER TEXT..: writes the table files of the texts into the folder")
+    };
     for path in texts.iter().map(Path::new) {
         let text = read(path);
-        let lines = lines_of(&text);
+        let lines = lines_of(path, &text);
         if lines.first().is_some_and(|(_, l)| l.starts_with("file ")) {
             write_changed(path, Path::new(folder), &lines);
         } else {
-            let name = format!("{}.tab", path.file_stem().unwrap_or_default().to_string_lossy());
-            write(path, Path::new(folder), &name, table(&lines));
+            let name = format!(
+                "{}.tab",
+                path.file_stem().unwrap_or_default().to_string_lossy()
+            );
+            write(Path::new(folder), &name, table(&lines));
         }
     }
 }
