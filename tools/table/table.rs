@@ -55,11 +55,7 @@ fn range(at: Place, word: &str, names: &[String]) -> Written<std::ops::RangeIncl
 
 // The word after a key, as `pick` in "Check 1..12 pick 1".
 fn after<'a>(at: Place, words: &[&'a str], key: &str) -> Written<&'a str> {
-    match words
-        .iter()
-        .position(|w| *w == key)
-        .and_then(|i| words.get(i + 1))
-    {
+    match words.iter().position(|w| *w == key).and_then(|i| words.get(i + 1)) {
         Some(word) => Ok(word),
         None => wrong(at, format!("'{key}' and a number are missing")),
     }
@@ -104,25 +100,15 @@ fn rule(at: Place, text: &str, names: &Names) -> Written<Vec<u8>> {
         return wrong(at, "a rule says how many items it has");
     };
     let (kind, pick, low, high) = kind(at, gives)?;
-    let mark: u32 = number(
-        at,
-        after(at, &mark.split_whitespace().collect::<Vec<_>>(), "mark")?,
-    )?;
-    let mut one = numbered(at, left, &names.nonterminals)?
-        .to_be_bytes()
-        .to_vec();
+    let mark: u32 = number(at, after(at, &mark.split_whitespace().collect::<Vec<_>>(), "mark")?)?;
+    let mut one = numbered(at, left, &names.nonterminals)?.to_be_bytes().to_vec();
     one.extend([number(at, count)?, kind, pick]);
     one.extend([mark, low, high].iter().flat_map(|n| n.to_be_bytes()));
     Ok(one.repeat(times))
 }
 
 // "(STATE, OTHER) REST": every pair of the two ranges, in order, and the rest.
-fn pairs<'a>(
-    at: Place,
-    text: &'a str,
-    names: &Names,
-    others: &[String],
-) -> Written<(Vec<[u16; 2]>, &'a str)> {
+fn pairs<'a>(at: Place, text: &'a str, names: &Names, others: &[String]) -> Written<(Vec<[u16; 2]>, &'a str)> {
     let Some(((state, other), rest)) = text
         .strip_prefix('(')
         .and_then(|t| t.split_once(')'))
@@ -132,12 +118,7 @@ fn pairs<'a>(
     };
     let others = range(at, other, others)?;
     let states = range(at, state, &names.states)?;
-    Ok((
-        states
-            .flat_map(|s| others.clone().map(move |o| [s, o]))
-            .collect(),
-        rest,
-    ))
+    Ok((states.flat_map(|s| others.clone().map(move |o| [s, o])).collect(), rest))
 }
 
 // What an action does: "shift 2", "rules 0 1", "shift 2, rules 4", "nothing".
@@ -186,13 +167,8 @@ fn goto(at: Place, text: &str, names: &Names) -> Written<Vec<u8>> {
 fn count(at: Place, text: &str) -> Written<Vec<u8>> {
     let words: Vec<&str> = text.split_whitespace().collect();
     match words.as_slice() {
-        ["states" | "classes" | "nonterminals" | "rules", n] => {
-            Ok(number::<u16>(at, n)?.to_be_bytes().to_vec())
-        }
-        _ => wrong(
-            at,
-            "a count is states, classes, nonterminals or rules, and a number",
-        ),
+        ["states" | "classes" | "nonterminals" | "rules", n] => Ok(number::<u16>(at, n)?.to_be_bytes().to_vec()),
+        _ => wrong(at, "a count is states, classes, nonterminals or rules, and a number"),
     }
 }
 
@@ -221,10 +197,7 @@ fn head<'a>(at: Place<'a>, line: &str) -> Written<Option<Field<'a>>> {
 
 // Names are for the text alone: "names of states: begin line word".
 fn name(at: Place, line: &str, names: &mut Names) -> Written<bool> {
-    let Some((what, list)) = line
-        .strip_prefix("names of ")
-        .and_then(|l| l.split_once(':'))
-    else {
+    let Some((what, list)) = line.strip_prefix("names of ").and_then(|l| l.split_once(':')) else {
         return Ok(false);
     };
     let list = list.split_whitespace().map(str::to_string).collect();
@@ -232,12 +205,7 @@ fn name(at: Place, line: &str, names: &mut Names) -> Written<bool> {
         "states" => names.states = list,
         "classes" => names.classes = list,
         "nonterminals" => names.nonterminals = list,
-        _ => {
-            return wrong(
-                at,
-                format!("names of states, classes or nonterminals, not of {what}"),
-            )
-        }
+        _ => return wrong(at, format!("names of states, classes or nonterminals, not of {what}")),
     }
     Ok(true)
 }
@@ -254,10 +222,7 @@ fn fill(at: Place, line: &str, part: u8, field: &mut Field, names: &Names) -> Wr
             field.length = Some(number(at, n)?);
             vec![]
         }
-        ["bytes", bytes @ ..] => bytes
-            .iter()
-            .map(|b| number(at, b))
-            .collect::<Written<Vec<u8>>>()?,
+        ["bytes", bytes @ ..] => bytes.iter().map(|b| number(at, b)).collect::<Written<Vec<u8>>>()?,
         _ => match part {
             1 => count(at, line)?,
             2 => rule(at, line, names)?,
@@ -323,10 +288,7 @@ fn changed<'a>(base: &[Line<'a>], edits: &[Line<'a>]) -> Written<Vec<Line<'a>>> 
         if let Some(old) = edit.strip_prefix("- ").map(str::trim) {
             let found: Vec<usize> = (0..lines.len()).filter(|i| lines[*i].1 == old).collect();
             let [only] = found.as_slice() else {
-                return wrong(
-                    at,
-                    format!("'{old}' stands {} times in the base", found.len()),
-                );
+                return wrong(at, format!("'{old}' stands {} times in the base", found.len()));
             };
             place = *only;
             lines.remove(place);
@@ -352,8 +314,7 @@ fn read(path: &Path) -> String {
 // Writes a file and its name on standard output.
 fn write(folder: &Path, name: &str, bytes: Written<Vec<u8>>) {
     match bytes {
-        Ok(bytes) => std::fs::write(folder.join(name), bytes)
-            .unwrap_or_else(|e| fail(format!("{name}: {e}"))),
+        Ok(bytes) => std::fs::write(folder.join(name), bytes).unwrap_or_else(|e| fail(format!("{name}: {e}"))),
         Err(what) => fail(what),
     }
     println!("{name}");
@@ -363,15 +324,8 @@ fn write(folder: &Path, name: &str, bytes: Written<Vec<u8>>) {
 fn write_changed(path: &Path, folder: &Path, lines: &[Line]) {
     let mut rest = lines;
     while let [(at, first), more @ ..] = rest {
-        let Some((name, base)) = first
-            .strip_prefix("file ")
-            .and_then(|l| l.split_once(" from "))
-        else {
-            fail(format!(
-                "{}:{}: file NAME from TEXT is missing",
-                path.display(),
-                at.1
-            ));
+        let Some((name, base)) = first.strip_prefix("file ").and_then(|l| l.split_once(" from ")) else {
+            fail(format!("{}:{}: file NAME from TEXT is missing", path.display(), at.1));
         };
         let end = more
             .iter()
@@ -399,10 +353,7 @@ fn main() {
         if lines.first().is_some_and(|(_, l)| l.starts_with("file ")) {
             write_changed(path, Path::new(folder), &lines);
         } else {
-            let name = format!(
-                "{}.tab",
-                path.file_stem().unwrap_or_default().to_string_lossy()
-            );
+            let name = format!("{}.tab", path.file_stem().unwrap_or_default().to_string_lossy());
             write(Path::new(folder), &name, table(&lines));
         }
     }
