@@ -53,14 +53,6 @@ fn range(at: Place, word: &str, names: &[String]) -> Written<std::ops::RangeIncl
     }
 }
 
-// The word after a key, as `pick` in "Check 1..12 pick 1".
-fn after<'a>(at: Place, words: &[&'a str], key: &str) -> Written<&'a str> {
-    match words.iter().position(|w| *w == key).and_then(|i| words.get(i + 1)) {
-        Some(word) => Ok(word),
-        None => wrong(at, format!("'{key}' and a number are missing")),
-    }
-}
-
 // Kind, pick, low and high: "Zero", "Pick 1", "Join 60 pick 2", "Check 1..12 pick 1", "kind 4 pick 1 low 2 high 3".
 fn kind(at: Place, text: &str) -> Written<(u8, u8, u32, u32)> {
     let words: Vec<&str> = text.split_whitespace().collect();
@@ -100,7 +92,10 @@ fn rule(at: Place, text: &str, names: &Names) -> Written<Vec<u8>> {
         return wrong(at, "a rule says how many items it has");
     };
     let (kind, pick, low, high) = kind(at, gives)?;
-    let mark: u32 = number(at, after(at, &mark.split_whitespace().collect::<Vec<_>>(), "mark")?)?;
+    let Some(mark) = mark.strip_prefix("mark ") else {
+        return wrong(at, "a rule ends with its mark, as mark 1");
+    };
+    let mark: u32 = number(at, mark)?;
     let mut one = numbered(at, left, &names.nonterminals)?.to_be_bytes().to_vec();
     one.extend([number(at, count)?, kind, pick]);
     one.extend([mark, low, high].iter().flat_map(|n| n.to_be_bytes()));
@@ -163,12 +158,12 @@ fn goto(at: Place, text: &str, names: &Names) -> Written<Vec<u8>> {
         .collect())
 }
 
-// "states 8" and its like: what field 1 says.
-fn count(at: Place, text: &str) -> Written<Vec<u8>> {
-    let words: Vec<&str> = text.split_whitespace().collect();
-    match words.as_slice() {
-        ["states" | "classes" | "nonterminals" | "rules", n] => Ok(number::<u16>(at, n)?.to_be_bytes().to_vec()),
-        _ => wrong(at, "a count is states, classes, nonterminals or rules, and a number"),
+// "states 8" and its like, behind the counts that stand already.
+fn count(at: Place, text: &str, already: usize) -> Written<Vec<u8>> {
+    let order = ["states", "classes", "nonterminals", "rules"];
+    match text.split_once(' ') {
+        Some((what, n)) if order.get(already) == Some(&what) => Ok(number::<u16>(at, n)?.to_be_bytes().to_vec()),
+        _ => wrong(at, format!("the counts are, in this order: {}", order.join(", "))),
     }
 }
 
@@ -224,7 +219,7 @@ fn fill(at: Place, line: &str, part: u8, field: &mut Field, names: &Names) -> Wr
         }
         ["bytes", bytes @ ..] => bytes.iter().map(|b| number(at, b)).collect::<Written<Vec<u8>>>()?,
         _ => match part {
-            1 => count(at, line)?,
+            1 => count(at, line, field.data.len() / 2)?,
             2 => rule(at, line, names)?,
             3 => action(at, line, names)?,
             4 => goto(at, line, names)?,
