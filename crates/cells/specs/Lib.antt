@@ -1,0 +1,3 @@
+-- Cells as bytes, and above them stacks, which know no byte.
+pub mod Pool
+pub mod Stacks

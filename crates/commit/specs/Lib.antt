@@ -1,0 +1,3 @@
+-- The commit as a function on bytes, and its promise.
+pub mod Moving
+pub mod Committing
