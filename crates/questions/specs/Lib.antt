@@ -1,0 +1,2 @@
+-- What the questions ask of their callers.
+pub mod Asking
