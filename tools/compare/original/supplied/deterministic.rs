@@ -1,0 +1,1 @@
+//! Supplied: the deterministic parser is not compared.
