@@ -7,4 +7,5 @@ mod Reductions
 mod Endings
 mod Walking
 pub mod Filled
+mod Within
 mod Questions

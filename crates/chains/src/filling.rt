@@ -8,7 +8,7 @@ ghost use Rattle.cells.specs.Pool.{cellAt};
 ghost use Rattle.cells.specs.Stacks.{entriesOf};
 ghost use Rattle.chains.specs.Marks.{MarksHold};
 ghost use Rattle.chains.specs.Planning.{planOf};
-ghost use Rattle.chains.specs.Filling.{StackAsks};
+ghost use Rattle.chains.specs.Filling.{StackAsks, WithinAsks, PlannedWithin};
 use super::Planned;
 use super::asking;
 use meaning::CellNo;
@@ -41,6 +41,35 @@ pub fn plan_stack(
         height as usize,
         chains,
         marks,
+    )
+}
+
+// The same where the marks stand in the bytes that hold the stack too, from `at` on.
+pub fn plan_within(
+    table: &[u8],
+    view: View,
+    work: &mut [u8],
+    at: usize,
+    height: u16,
+    top: CellNo,
+    class: u16,
+    room: usize,
+    chains: usize,
+) -> Planned
+    requires { ⌜ WithinAsks (now table) view (now work) at height (top .0) room chains ⌝ }
+    ensures { λ r. ⌜ PlannedWithin (plan (tableOf (now (table .entry))) room class (states (entriesOf (cellAt (now (work .entry))) height (top .0))) chains) (now (work .entry)) at (now (work .exit)) r ⌝ }
+{
+    let stack = cells::states_into(work, height, top, [0; 64]);
+    let end = at + 4096;
+    super::plan(
+        table,
+        view,
+        room,
+        class,
+        stack,
+        height as usize,
+        chains,
+        &mut work[at..end],
     )
 }
 

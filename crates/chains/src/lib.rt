@@ -21,6 +21,7 @@ mod reducing;
 
 pub use filling::can_plan_stack;
 pub use filling::plan_stack;
+pub use filling::plan_within;
 pub use filling::recovers_stack;
 
 // What a planning comes to: refused, or the reductions tried, and the chains ended so far.

@@ -1,0 +1,2 @@
+-- What the program finds out before it applies anything.
+pub mod Found

@@ -1,0 +1,41 @@
+// The checks 1, 2 and 3 of every call.
+ghost use mathlib.Core.Path.{_≡_};
+ghost use lib.ListN.{length};
+ghost use Rattle.state.specs.Layout.{stateLength};
+ghost use Rattle.machine.specs.Checks.{lengthsRight, foundOf};
+use meaning::Refusal;
+use meaning::View;
+use table::Checked;
+
+// A table and a state that go together, or the refusal.
+pub enum Found {
+    Refused(Refusal),
+    Right(View),
+}
+
+// Check 1: whether both buffers have their lengths.
+pub fn lengths_right(state: &[u8], work: &[u8]) -> bool
+    ensures { λ r. ⌜ r ≡ lengthsRight (now (state .entry)) (now (work .entry)) ⌝ }
+{
+    if state::state_length_right(state) {
+        return state::work_length_right(work);
+    }
+    false
+}
+
+// Checks 2 and 3: the table, and then the state by the table's count of states.
+pub fn find(table: &[u8], state: &[u8]) -> Found
+    requires { ⌜ length (now state) ≡ stateLength ⌝ }
+    ensures { λ r. ⌜ r ≡ foundOf (now (table .entry)) (now (state .entry)) ⌝ }
+{
+    match table::check_table(table) {
+        Checked::Wrong => Found::Refused(Refusal::WrongTable),
+        Checked::Right(view) => {
+            if state::valid_state(state, view.counts.states) {
+                Found::Right(view)
+            } else {
+                Found::Refused(Refusal::WrongState)
+            }
+        }
+    }
+}
