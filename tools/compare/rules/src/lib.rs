@@ -1,4 +1,4 @@
-//! The rules of the reading machine, plainly: written from docs/RULES.md, with a watch on the conditions under which the
+//! The rules of the reading machine, plainly: written apart from the definitions, with a watch on the conditions under which the
 //! original must do the same.
 
 mod apply;
