@@ -23,6 +23,8 @@ pub use filling::can_plan_stack;
 pub use filling::plan_stack;
 pub use filling::plan_within;
 pub use filling::recovers_stack;
+pub use reducing::MAX_CHAIN;
+pub use reducing::MAX_WALKED;
 
 // What a planning comes to: refused, or the reductions tried, and the chains ended so far.
 pub enum Planned {

@@ -17,7 +17,7 @@ pub const MAX_HEIGHT: usize = 64;
 
 pub const MAX_CHAIN: usize = 32;
 
-const MAX_WALKED: usize = 1024;
+pub const MAX_WALKED: usize = 1024;
 
 // A simulated stack: its states, lowest first, and its height. It is copied at each reduction.
 pub struct Stack {

@@ -21,8 +21,11 @@ use Rattle.numbers.specs.Zeros.{zeros}
 use Rattle.questions.specs.Asking.{AsksState}
 use Rattle.state.specs.Layout.{readingsAt, marksAt}
 use Rattle.state.specs.Readings.{readingsFrom, readingsOf, countOf}
-use Rattle.machine.specs.Checks.{lengthsRight, stateFor, foundOf}
-use Rattle.machine.specs.Promises.{workAfter, QuestionPromise, AsksLine, takesIn}
+use Rattle.promises.specs.Buffers.{lengthsRight, stateFor}
+use Rattle.machine.specs.Checks.{foundOf}
+use Rattle.promises.specs.Buffers.{workAfter}
+use Rattle.promises.specs.Calls.{QuestionPromise}
+use Rattle.machine.specs.Lines.{AsksLine, takesIn}
 use Rattle.machine.specs.declared.checking.Found.{Found}
 use Rattle.machine.specs.declared.checking.Found.the-variants as found
 use Rattle.machine.proofs.Checks.{state-long, work-long, RightFor, right-for, checked-refused, checked-right}

@@ -23,7 +23,8 @@ use Rattle.table.specs.Answers.{checkOf, Belongs}
 use Rattle.table.specs.declared.Checked.{Checked}
 use Rattle.table.specs.declared.Checked.the-variants as table-check
 use Rattle.table.proofs.Checking.{belongs-of, wrong-of}
-use Rattle.machine.specs.Checks.{lengthsRight, stateFor, foundOf}
+use Rattle.promises.specs.Buffers.{lengthsRight, stateFor}
+use Rattle.machine.specs.Checks.{foundOf}
 use Rattle.machine.specs.declared.checking.Found.{Found}
 use Rattle.machine.specs.declared.checking.Found.the-variants.{Refused, Right}
 

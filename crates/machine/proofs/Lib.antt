@@ -1,6 +1,8 @@
--- Laws of the calls: the checks, start, the questions, reading a stack out; and that each promise leaves one outcome.
+-- Laws of the calls: the checks, start, the questions, reading a stack out, feeding.
 pub mod Checks
 pub mod Starts
 pub mod Asks
 pub mod Stacks
-pub mod Outcomes
+pub mod Feeds
+pub mod RunParts
+pub mod Runs

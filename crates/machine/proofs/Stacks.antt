@@ -8,7 +8,7 @@ use lib.Dec.{eqb}
 use lib.ListN.{length, take, drop, set, length-set, length-map, length-replicate}
 use borrow.Author.Tests.{eqb-true, le-leb, lt-leb}
 use Rattle.meaning.specs.Answers.{stackNumbers}
-use Rattle.meaning.specs.Basics.{isNil}
+use Rattle.meaning.specs.Basics.{both, isNil}
 use Rattle.meaning.specs.Calls.{StackCall, stackCall, stackRefused, stackRead, noReading, written}
 use Rattle.meaning.specs.Readings.{seen}
 use Rattle.meaning.specs.declared.Entry.{Entry as SeenEntry}
@@ -21,7 +21,7 @@ use Rattle.cells.specs.Stacks.{Pool, entryAt, entriesOf}
 use Rattle.cells.specs.declared.Cell.{Cell}
 use Rattle.cells.proofs.Booleans.{both-left}
 use Rattle.cells.proofs.Stacks.{in-room, in-under, length-entries}
-use Rattle.lists.specs.Filling.{noEntry, filled}
+use Rattle.lists.specs.Filling.{noEntry, stored, filled}
 use Rattle.lists.specs.declared.entries.Entries.{Entries}
 use Rattle.state.specs.Layout.{stateLength, readingsAt, slotSize}
 use Rattle.state.specs.Readings.{slotAt, topAt, heightAt, readingAt, readingsFrom, countOf, readingsOf, ListIn}
@@ -30,7 +30,9 @@ use Rattle.state.proofs.Holding.{first-slot, top-room, top-stack}
 use Rattle.state.proofs.Lists.{length-readings, reading-numbered}
 use Rattle.state.proofs.Valid.{waiting-list}
 use Rattle.machine.specs.Checks.{foundOf}
-use Rattle.machine.specs.Reading.{listsRight, noEntries, readOn, ReadReady, refusedRead, stackIn, RightState, StackPromise, stackOn}
+use Rattle.promises.specs.Buffers.{listsRight}
+use Rattle.promises.specs.Calls.{stackOn, StackPromise}
+use Rattle.machine.specs.Reading.{noEntries, readOn, ReadReady, refusedRead, stackIn, RightState, ReadPromise}
 use Rattle.machine.specs.declared.checking.Found.{Found}
 use Rattle.machine.specs.declared.checking.Found.the-variants as found
 use Rattle.machine.specs.declared.reading.StackRead.{StackRead}
@@ -102,13 +104,13 @@ read-filled es ys h =
 
 -- The ways out.
 module _ (call : List SeenEntry → StackCall) (r : StackRead) (k : Refusal) (e : r ≡ refusedRead k) where
-  refused-promise : ((ys : List SeenEntry) → stackRefused ys k ≡ call ys) → StackPromise call r
+  refused-promise : ((ys : List SeenEntry) → stackRefused ys k ≡ call ys) → ReadPromise call r
   unfolding refusedRead
   refused-promise f =
       rw e (record { answers = λ ys. ap (λ (s : StackCall). s .says) (f ys); entries = λ ys. ap (λ (s : StackCall). s .entries) (f ys); few = omega arith })
 
 module _ (state : List ℕ) (number count : ℕ) (e : count ≡ countOf state) where
-  pub stack-consumed : (r : StackRead) → r ≡ refusedRead Consumed → count ≡ 0 → StackPromise (stackIn (readingsOf state) number) r
+  pub stack-consumed : (r : StackRead) → r ≡ refusedRead Consumed → count ≡ 0 → ReadPromise (stackIn (readingsOf state) number) r
   unfolding stackIn readingsFrom
   stack-consumed r f z = refused-promise (stackIn (readingsOf state) number) r Consumed f (λ ys. rw (← e, z))
 
@@ -116,7 +118,7 @@ module _ (state : List ℕ) (number count : ℕ) (e : count ≡ countOf state) w
     not-nil : isNil (readingsOf state) ≡ false
     not-nil = some-readings state (countOf state) (λ z. some (e ∙ z))
 
-    pub stack-none : (r : StackRead) → r ≡ refusedRead WrongArgument → count ≤ number → StackPromise (stackIn (readingsOf state) number) r
+    pub stack-none : (r : StackRead) → r ≡ refusedRead WrongArgument → count ≤ number → ReadPromise (stackIn (readingsOf state) number) r
     unfolding stackIn
     stack-none r f h =
         refused-promise (stackIn (readingsOf state) number) r WrongArgument f
@@ -156,7 +158,7 @@ module _ (state : List ℕ) (number count : ℕ) (e : count ≡ countOf state) w
           same-entries ys = rw (g, f)
 
           pub stack-done : (r : Entries) → r ≡ readOn (map seen (entriesOf (cellAt state) (x .height) (slot .top .0))) (none .entries) →
-              StackPromise (stackIn (readingsOf state) number) (record { answer = Read (x .height) (slot .mark); entries = r })
+              ReadPromise (stackIn (readingsOf state) number) (record { answer = Read (x .height) (slot .mark); entries = r })
           unfolding refusedRead
           stack-done r d =
               let es : List SeenEntry = map seen (entriesOf (cellAt state) (x .height) (slot .top .0)) in
@@ -173,7 +175,7 @@ module _ (state : List ℕ) (number count : ℕ) (e : count ≡ countOf state) w
 
 -- By what the checks find.
 module _ (table state : List ℕ) (number : ℕ) (q : Found) (says : q ≡ foundOf table state) where
-  pub stack-refused : (k : Refusal) (r : StackRead) → q ≡ found.Refused k → r ≡ refusedRead k → StackPromise (stackOn true table state number) r
+  pub stack-refused : (k : Refusal) (r : StackRead) → q ≡ found.Refused k → r ≡ refusedRead k → ReadPromise (stackOn true table state number) r
   unfolding stackCall stackIn
   stack-refused k r e f =
       refused-promise (stackOn true table state number) r k f (λ ys. checked-refused table state q says (stackRefused ys) (λ t rs. stackIn rs number ys) k e)
@@ -182,7 +184,7 @@ module _ (table state : List ℕ) (number : ℕ) (q : Found) (says : q ≡ found
     pub right-state : length state ≡ stateLength → RightState state
     right-state l = record { states = v .counts .states; valid = right-for table state q says v e .valid; long = l }
 
-    pub stack-found : (r : StackRead) → StackPromise (stackIn (readingsOf state) number) r → StackPromise (stackOn true table state number) r
+    pub stack-found : (r : StackRead) → ReadPromise (stackIn (readingsOf state) number) r → ReadPromise (stackOn true table state number) r
     unfolding stackCall stackIn
     stack-found r p =
         let same : (ys : List SeenEntry) → stackIn (readingsOf state) number ys ≡ stackOn true table state number ys =
@@ -194,9 +196,30 @@ module _ (table state : List ℕ) (number : ℕ) (q : Found) (says : q ≡ found
         }
 
 module _ (table state : List ℕ) (number places : ℕ) (b : Bool) (e : b ≡ listsRight state places) (r : StackRead) where
-  pub stack-length : b ≡ false → r ≡ refusedRead WrongLength → StackPromise (stackOn (listsRight state places) table state number) r
+  pub stack-length : b ≡ false → r ≡ refusedRead WrongLength → ReadPromise (stackOn (listsRight state places) table state number) r
   unfolding stackCall
   stack-length f g = refused-promise (stackOn (listsRight state places) table state number) r WrongLength g (λ ys. rw (← e, f))
 
-  pub stack-long : b ≡ true → StackPromise (stackOn true table state number) r → StackPromise (stackOn (listsRight state places) table state number) r
+  pub stack-long : b ≡ true → ReadPromise (stackOn true table state number) r → ReadPromise (stackOn (listsRight state places) table state number) r
   stack-long f p = rw (sym e ∙ f) p
+
+-- The public call: what the covered one read goes into the lent list, which stays as it is where it has another length.
+pub both-no : (a : Bool) → both a false ≡ false
+both-no true = refl
+both-no false = refl
+
+lists-short : (state : List ℕ) (places : ℕ) → eqb places 64 ≡ false → listsRight state places ≡ false
+unfolding listsRight
+lists-short state places e = rw (e, both-no (eqb (length state) 18532))
+
+kept-list : (table state : List ℕ) (number : ℕ) (ys : List SeenEntry) → ys ≡ stackOn false table state number ys .entries
+unfolding stackCall
+kept-list table state number ys = refl
+
+module _ (table state : List ℕ) (number : ℕ) (ys : List SeenEntry) (r : StackRead) (p : ReadPromise (stackOn (listsRight state (length ys)) table state number) r) where
+  filled-by : (b : Bool) → eqb (length ys) 64 ≡ b → filled (r .entries .list) ys (stored 64 (length ys) (r .entries .count)) ≡ stackOn (listsRight state (length ys)) table state number ys .entries
+  filled-by true e = rw (e, le-leb (r .entries .count) 64 (p .few)) (p .entries ys)
+  filled-by false e = rw (e, lists-short state (length ys) e) (kept-list table state number ys)
+
+  pub stack-filled : (n : ℕ) (zs : List SeenEntry) → n ≡ stored 64 (length ys) (r .entries .count) → zs ≡ filled (r .entries .list) ys n → StackPromise table state number ys (r .answer) zs
+  stack-filled n zs e f = record { answers = p .answers ys; entries-are = f ∙ ap (filled (r .entries .list) ys) e ∙ filled-by (eqb (length ys) 64) refl }

@@ -21,8 +21,10 @@ use Rattle.table.specs.declared.Checked.{Checked}
 use Rattle.table.specs.declared.Checked.the-variants as table-check
 use Rattle.table.proofs.Bounds.{start-state-below}
 use Rattle.table.proofs.Checking.{belongs-of, wrong-of}
-use Rattle.machine.specs.Checks.{lengthsRight}
-use Rattle.machine.specs.Promises.{workAfter, StartLine, StartPromise}
+use Rattle.promises.specs.Buffers.{lengthsRight}
+use Rattle.promises.specs.Buffers.{workAfter}
+use Rattle.promises.specs.Calls.{StartPromise}
+use Rattle.machine.specs.Lines.{StartLine}
 use Rattle.machine.proofs.Checks.{view-states}
 
 start-target : (table : List ℕ) (a : Action) → a ≡ actionAnswer (actionOf (tableOf table) 0 2) → a .target ≡ stateNo (startState (tableOf table))

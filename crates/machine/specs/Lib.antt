@@ -1,4 +1,5 @@
 -- What the machine's calls promise.
 pub mod Checks
-pub mod Promises
+pub mod Lines
 pub mod Reading
+pub mod Feeding

@@ -19,12 +19,8 @@ use Rattle.lists.specs.Filling.{noEntry, filled}
 use Rattle.lists.specs.declared.entries.Entries.{Entries}
 use Rattle.state.specs.Check.{validState}
 use Rattle.state.specs.Layout.{stateLength}
-use Rattle.machine.specs.Checks.{stateFor}
+use Rattle.promises.specs.Buffers.{stateFor}
 use Rattle.machine.specs.declared.reading.StackRead.{StackRead}
-
--- the state buffer has its length, and the lent list has a place for each height
-unfoldable pub listsRight : (state : List ℕ) → (places : ℕ) → Bool
-listsRight state places = both (eqb (length state) stateLength) (eqb places maxHeight)
 
 abbrev pub noEntries : Entries
 noEntries = record { list = replicate 64 noEntry; count = 0 }
@@ -55,10 +51,7 @@ pub record RightState (state : List ℕ) : Type 0 where
   pub long : length state ≡ stateLength
 
 -- A call's answer, and its entries for whatever the lent list holds.
-pub record StackPromise (call : List SeenEntry → StackCall) (r : StackRead) : Type 0 where
+pub record ReadPromise (call : List SeenEntry → StackCall) (r : StackRead) : Type 0 where
   pub answers : (ys : List SeenEntry) → stackNumbers (r .answer) ≡ call ys .says
   pub entries : (ys : List SeenEntry) → filled (r .entries .list) ys (r .entries .count) ≡ call ys .entries
   pub few : r .entries .count ≤ maxHeight
-
-abbrev pub stackOn : (lengths : Bool) → (table state : List ℕ) → (i : ℕ) → List SeenEntry → StackCall
-stackOn lengths table state i ys = stackCall lengths table (stateFor table state) i ys

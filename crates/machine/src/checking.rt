@@ -2,10 +2,14 @@
 ghost use mathlib.Core.Path.{_≡_};
 ghost use lib.ListN.{length};
 ghost use Rattle.state.specs.Layout.{stateLength};
-ghost use Rattle.machine.specs.Checks.{lengthsRight, foundOf};
+ghost use Rattle.promises.specs.Buffers.{lengthsRight, feedLengths};
+ghost use Rattle.machine.specs.Checks.{foundOf};
 use meaning::Refusal;
 use meaning::View;
 use table::Checked;
+
+// The places of the lent list of error records.
+pub const ERROR_PLACES: usize = 32;
 
 // A table and a state that go together, or the refusal.
 pub enum Found {
@@ -19,6 +23,16 @@ pub fn lengths_right(state: &[u8], work: &[u8]) -> bool
 {
     if state::state_length_right(state) {
         return state::work_length_right(work);
+    }
+    false
+}
+
+// Check 1 of a feed: also, whether the lent list has a place for each error record.
+pub fn feed_lengths_right(state: &[u8], work: &[u8], places: usize) -> bool
+    ensures { λ r. ⌜ r ≡ feedLengths (now (state .entry)) (now (work .entry)) places ⌝ }
+{
+    if lengths_right(state, work) {
+        return places == ERROR_PLACES;
     }
     false
 }

@@ -1,40 +1,46 @@
-// The reading machine: its limits and its calls. Nothing else is for users.
-ghost use Rattle.machine.specs.Promises.{StartPromise, takesOn, canEndOn, canRecoverOn, QuestionPromise};
+// The reading machine: its limits and its calls. Nothing else is for users; what is public beside it serves programs and exports.
+ghost use Rattle.promises.specs.Calls.{StartPromise, takesOn, canEndOn, canRecoverOn, QuestionPromise, StackPromise, FeedPromise};
+use meaning::Entry;
+use meaning::ErrorRecord;
+use meaning::FeedAnswer;
 use meaning::QuestionAnswer;
 use meaning::Refusal;
+use meaning::StackAnswer;
 use meaning::StartAnswer;
+use meaning::Term;
 
 mod asking;
 mod checking;
-mod reading;
+pub mod reading;
+pub mod running;
 mod starting;
 
 pub struct Machine {}
 
 impl Machine {
-    // The eight limits.
-    pub const STATES: u16 = 512;
+    // The eight limits, each from the crate whose proof holds it to the meaning's.
+    pub const STATES: u16 = table::MAX_STATES;
 
-    pub const CLASSES: u16 = 64;
+    pub const CLASSES: u16 = table::MAX_CLASSES;
 
-    pub const NONTERMINALS: u16 = 64;
+    pub const NONTERMINALS: u16 = table::MAX_NONTERMINALS;
 
-    pub const RULES: u16 = 256;
+    pub const RULES: u16 = table::MAX_RULES;
 
-    pub const READINGS: u16 = 16;
+    pub const READINGS: u16 = state::MAX_READINGS;
 
-    pub const HEIGHT: u16 = 64;
+    pub const HEIGHT: u16 = state::MAX_HEIGHT;
 
-    pub const CHAIN: u16 = 32;
+    pub const CHAIN: usize = chains::MAX_CHAIN;
 
-    pub const WALKED: u16 = 1024;
+    pub const WALKED: usize = chains::MAX_WALKED;
 
     // The lengths of the lent buffers, and the places of the lent list of errors.
-    pub const STATE_LENGTH: usize = 18532;
+    pub const STATE_LENGTH: usize = state::STATE_LENGTH;
 
-    pub const WORK_LENGTH: usize = 46464;
+    pub const WORK_LENGTH: usize = state::WORK_LENGTH;
 
-    pub const ERRORS: usize = 32;
+    pub const ERRORS: usize = checking::ERROR_PLACES;
 
     // Makes a state buffer of any content the state of a new line.
     pub fn start(table: &[u8], state: &mut [u8], work: &mut [u8]) -> StartAnswer
@@ -95,5 +101,31 @@ impl Machine {
             return answer;
         }
         QuestionAnswer::Refused(Refusal::WrongLength)
+    }
+
+    // Reads the stack of a reading out, top first, into the lent list.
+    pub fn stack(table: &[u8], state: &[u8], number: u16, entries: &mut [Entry]) -> StackAnswer
+        ensures { λ r. ⌜ StackPromise (now (table .entry)) (now (state .entry)) number (now (entries .entry)) r (now (entries .exit)) ⌝ }
+    {
+        let read = reading::stack_of(table, state, number, entries.len());
+        let list = read.entries;
+        lists::entries::fill(entries, list);
+        read.answer
+    }
+
+    // Feeds one term; the error records go into the lent list.
+    pub fn feed(
+        table: &[u8],
+        state: &mut [u8],
+        work: &mut [u8],
+        term: Term,
+        errors: &mut [ErrorRecord],
+    ) -> FeedAnswer
+        ensures { λ r. ⌜ FeedPromise (now (table .entry)) (now (state .entry)) (now (work .entry)) term (now (errors .entry)) r (now (state .exit)) (now (work .exit)) (now (errors .exit)) ⌝ }
+    {
+        let run = running::feed_of(table, state, work, term, errors.len());
+        let list = run.errors;
+        lists::errors::fill(errors, list);
+        run.answer
     }
 }

@@ -1,4 +1,4 @@
-// A stack is read out, top first, into a list by value.
+// The covered call under `Machine::stack`, for programs and exports: a stack is read out, top first, into a list by value.
 ghost use mathlib.Core.Path.{_≡_};
 ghost use mathlib.Core.Bool.{true};
 ghost use mathlib.Core.List.{map};
@@ -8,7 +8,9 @@ ghost use Rattle.cells.specs.Pool.{cellAt};
 ghost use Rattle.cells.specs.Stacks.{entriesOf};
 ghost use Rattle.state.specs.Layout.{stateLength};
 ghost use Rattle.state.specs.Readings.{readingsOf};
-ghost use Rattle.machine.specs.Reading.{listsRight, readOn, ReadReady, refusedRead, stackIn, RightState, StackPromise, stackOn};
+ghost use Rattle.promises.specs.Buffers.{listsRight};
+ghost use Rattle.promises.specs.Calls.{stackOn};
+ghost use Rattle.machine.specs.Reading.{readOn, ReadReady, refusedRead, stackIn, RightState, ReadPromise};
 use super::checking::Found;
 use super::checking::find;
 use lists::Entries;
@@ -73,7 +75,7 @@ fn entries_from(state: &[u8], height: u16, top: CellNo, read: Entries) -> Entrie
 // The stack of a reading, of a state that was found right.
 fn stack_right(state: &[u8], number: u16) -> StackRead
     requires { ⌜ RightState (now state) ⌝ }
-    ensures { λ r. ⌜ StackPromise (stackIn (readingsOf (now (state .entry))) number) r ⌝ }
+    ensures { λ r. ⌜ ReadPromise (stackIn (readingsOf (now (state .entry))) number) r ⌝ }
 {
     let count = state::reading_count(state);
     if count == 0 {
@@ -99,7 +101,7 @@ fn stack_right(state: &[u8], number: u16) -> StackRead
 // On a state buffer of the right length.
 fn stack_found(table: &[u8], state: &[u8], number: u16) -> StackRead
     requires { ⌜ length (now state) ≡ stateLength ⌝ }
-    ensures { λ r. ⌜ StackPromise (stackOn true (now (table .entry)) (now (state .entry)) number) r ⌝ }
+    ensures { λ r. ⌜ ReadPromise (stackOn true (now (table .entry)) (now (state .entry)) number) r ⌝ }
 {
     match find(table, state) {
         Found::Refused(refusal) => refused(refusal),
@@ -109,7 +111,7 @@ fn stack_found(table: &[u8], state: &[u8], number: u16) -> StackRead
 
 // Reads the stack of a reading out, for a lent list of so many places.
 pub fn stack_of(table: &[u8], state: &[u8], number: u16, places: usize) -> StackRead
-    ensures { λ r. ⌜ StackPromise (stackOn (listsRight (now (state .entry)) places) (now (table .entry)) (now (state .entry)) number) r ⌝ }
+    ensures { λ r. ⌜ ReadPromise (stackOn (listsRight (now (state .entry)) places) (now (table .entry)) (now (state .entry)) number) r ⌝ }
 {
     if lists_right(state, places) {
         return stack_found(table, state, number);

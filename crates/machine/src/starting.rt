@@ -2,7 +2,7 @@
 ghost use mathlib.Core.Path.{_≡_};
 ghost use lib.ListN.{length};
 ghost use Rattle.state.specs.Layout.{stateLength};
-ghost use Rattle.machine.specs.Promises.{StartLine};
+ghost use Rattle.machine.specs.Lines.{StartLine};
 use meaning::Refusal;
 use meaning::StartAnswer;
 use meaning::StateNo;

@@ -7,7 +7,7 @@ use mathlib.Core.List.{List}
 use Rattle.meaning.specs.Bounds.{maxBirths}
 use Rattle.meaning.specs.Limits.{maxReadings, maxHeight, maxWalked, maxErrors, maxBytes}
 use Rattle.cells.specs.Pool.{cellSize}
-use Rattle.state.specs.Layout.{stateCells, readingsAt, slotSize, countAt, usedAt, stateLength, workCells, marksAt, resultsAt, recoveredAt, errorsAt, mapAt, workLength}
+use Rattle.state.specs.Layout.{stateCells, readingsAt, slotSize, countAt, usedAt, stateLength, workCells, marksAt, resultsAt, leftAt, errorsAt, mapAt, workLength}
 
 pub record StateAreas : Type 0 where
   pub cells : stateCells ≡ maxReadings * maxHeight
@@ -24,14 +24,14 @@ pub record WorkAreas : Type 0 where
   pub cells : workCells ≡ stateCells + maxBirths
   pub marks : marksAt ≡ cellSize * workCells
   pub results : resultsAt ≡ marksAt + 4 * maxWalked
-  pub recovered : recoveredAt ≡ resultsAt + slotSize * maxReadings
-  pub errors : errorsAt ≡ recoveredAt + slotSize * maxReadings
+  pub left : leftAt ≡ resultsAt + slotSize * maxReadings
+  pub errors : errorsAt ≡ leftAt + slotSize * maxReadings
   pub map : mapAt ≡ errorsAt + 8 * maxErrors
   pub end : workLength ≡ mapAt + 2 * workCells
   pub small : workLength ≤ maxBytes
 
 pub work-areas : WorkAreas
-work-areas = record { cells = refl; marks = refl; results = refl; recovered = refl; errors = refl; map = refl; end = refl; small = omega arith }
+work-areas = record { cells = refl; marks = refl; results = refl; left = refl; errors = refl; map = refl; end = refl; small = omega arith }
 
 -- A cell is always found: where a state uses `used` cells, every birth of a feed has one of its own.
 pub cell-found : (w : List ℕ) (used n : ℕ) → length w ≡ workLength → used ≤ stateCells → n < used + maxBirths → cellSize * n + cellSize ≤ length w

@@ -30,12 +30,12 @@ workCells = 2096
 abbrev pub marksAt : ℕ
 marksAt = 37728
 
--- two lists of reading slots: results, and what recovery produced
+-- two lists of reading slots: results of the stage that runs first, and readings left: those that could not be planned, or in the second stage of recovery its results
 abbrev pub resultsAt : ℕ
 resultsAt = 41824
 
-abbrev pub recoveredAt : ℕ
-recoveredAt = 41920
+abbrev pub leftAt : ℕ
+leftAt = 41920
 
 -- error records: rule 2, state 2, mark 4
 abbrev pub errorsAt : ℕ

@@ -39,7 +39,7 @@ pub const MARKS_AT: usize = 37728;
 
 pub const RESULTS_AT: usize = 41824;
 
-pub const RECOVERED_AT: usize = 41920;
+pub const LEFT_AT: usize = 41920;
 
 pub const ERRORS_AT: usize = 42016;
 

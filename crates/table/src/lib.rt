@@ -14,6 +14,11 @@ mod gotos;
 mod reading;
 mod rules;
 
+pub use frame::MAX_CLASSES;
+pub use frame::MAX_NONTERMINALS;
+pub use frame::MAX_RULES;
+pub use frame::MAX_STATES;
+
 // A right table file has a shift of state 0 at this class.
 const START_CLASS: u16 = 2;
 

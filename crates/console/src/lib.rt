@@ -1,0 +1,10 @@
+// What the programs share: lines of standard input, words on standard output, terms that are fed.
+pub mod lines;
+pub mod saying;
+pub mod terms;
+pub mod words;
+
+// The lent buffers of the machine.
+pub type State = [u8; 18532];
+
+pub type Work = [u8; 46464];

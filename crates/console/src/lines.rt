@@ -1,0 +1,116 @@
+// Lines of standard input, one after the other.
+use libc::STDIN_FILENO;
+
+// A piece of the input, and a line of it: at most a table file of 65,536 bytes in hexadecimal, and a word.
+pub type Piece = [u8; 65536];
+
+pub type Line = [u8; 131100];
+
+const PIECE: usize = 65536;
+
+const LINE: usize = 131100;
+
+// What of the piece is still to be read.
+pub struct Rest {
+    at: usize,
+    end: usize,
+}
+
+enum Byte {
+    Is { byte: u8, rest: Rest },
+    End,
+}
+
+// A line of so many bytes, one that is too long for its place, or the end of the input.
+pub enum Next {
+    Line { length: usize, rest: Rest },
+    TooLong { rest: Rest },
+    End,
+}
+
+// The first n bytes; none where there are fewer.
+pub fn first(bytes: &[u8], n: usize) -> &[u8] {
+    if n <= bytes.len() {
+        &bytes[..n]
+    } else {
+        &bytes[..0]
+    }
+}
+
+// Before the first piece is read.
+pub fn nothing() -> Rest {
+    Rest { at: 0, end: 0 }
+}
+
+// The next piece's first byte.
+fn refill(piece: &mut Piece) -> Byte {
+    let end = io::count(libc::read(STDIN_FILENO, &mut *piece), piece);
+    if end == 0 {
+        return Byte::End;
+    }
+    Byte::Is {
+        byte: piece[0],
+        rest: Rest { at: 1, end },
+    }
+}
+
+fn next_byte(piece: &mut Piece, rest: Rest) -> Byte {
+    let at = rest.at;
+    if at < rest.end {
+        if at < PIECE {
+            return Byte::Is {
+                byte: piece[at],
+                rest: Rest {
+                    at: at + 1,
+                    end: rest.end,
+                },
+            };
+        }
+    }
+    refill(piece)
+}
+
+// A line too long for its place is cut, and counts one byte more than the place has.
+fn put(line: &mut Line, length: usize, byte: u8) -> usize {
+    if length < LINE {
+        line[length] = byte;
+        return length + 1;
+    }
+    LINE + 1
+}
+
+fn ended_line(length: usize, rest: Rest) -> Next {
+    if length > LINE {
+        return Next::TooLong { rest };
+    }
+    Next::Line { length, rest }
+}
+
+// The last line may lack its end.
+fn ended_input(length: usize, rest: Rest) -> Next {
+    if length == 0 {
+        return Next::End;
+    }
+    ended_line(length, rest)
+}
+
+// The next line, without its end. A proved loop has to end, and nothing says that the input does: the loop counts down from a number that no run uses up.
+pub fn next_line(piece: &mut Piece, rest: Rest, line: &mut Line) -> Next {
+    let mut rest = rest;
+    let mut length: usize = 0;
+    let mut turns = u64::MAX;
+    while turns > 0 {
+        match next_byte(&mut *piece, rest) {
+            Byte::End => return ended_input(length, rest),
+            Byte::Is { byte, rest: after } => {
+                rest = after;
+                if byte == b'\n' {
+                    return ended_line(length, rest);
+                }
+                length = put(&mut *line, length, byte);
+            }
+        }
+        turns -= 1;
+    }
+    Next::End
+}

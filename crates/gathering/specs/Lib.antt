@@ -1,0 +1,2 @@
+-- What gathering the error records means.
+pub mod Gathering

@@ -1,0 +1,123 @@
+-- Each promise leaves one outcome: any two that it allows are equal, of start, of the questions and of reading out to the last byte, of a feed but for which cell holds which entry. Assumes nothing.
+use mathlib.Core.Path.{_≡_, refl, sym, ap, _∙_, subst}
+use mathlib.Core.Bool.{Bool}
+use mathlib.Core.List.{List, [], _∷_}
+use Prim.Native.Nat.{ℕ, zero, suc, _≤_}
+use native.Mathlib.Omega.{arith}
+use Rattle.meaning.specs.Answers.{number, startNumber, feedNumbers, stackNumbers}
+use Rattle.meaning.specs.Basics.{nothing, just}
+use Rattle.meaning.specs.Calls.{State}
+use Rattle.meaning.specs.declared.Entry.{Entry as SeenEntry}
+use Rattle.meaning.specs.declared.ErrorRecord.{ErrorRecord}
+use Rattle.meaning.specs.declared.FeedAnswer.{FeedAnswer}
+use Rattle.meaning.specs.declared.FeedAnswer.the-variants as fed
+use Rattle.meaning.specs.declared.FeedNumbers.{FeedNumbers}
+use Rattle.meaning.specs.declared.QuestionAnswer.{QuestionAnswer}
+use Rattle.meaning.specs.declared.Refusal.{Refusal}
+use Rattle.meaning.specs.declared.Refusal.the-variants.{WrongLength, WrongTable, WrongState, Consumed, WrongArgument, ReachesStart, NoGoto, TooHigh, ChainTooLong, WalkTooLong, TooManyReadings}
+use Rattle.meaning.specs.declared.StackAnswer.{StackAnswer}
+use Rattle.meaning.specs.declared.StackAnswer.the-variants as stack
+use Rattle.meaning.specs.declared.StackNumbers.{StackNumbers}
+use Rattle.meaning.specs.declared.StartAnswer.{StartAnswer}
+use Rattle.meaning.specs.declared.StartAnswer.the-variants as start
+use Rattle.meaning.specs.declared.Term.{Term}
+use Rattle.promises.specs.Buffers.{stateFor}
+use Rattle.promises.specs.Calls.{StartPromise, QuestionPromise, StackPromise, SameState, FeedPromise, feedOn}
+use Rattle.promises.specs.Claims.{plainState, SameOutcome}
+use Rattle.promises.proofs.Identities.{renamed-plain, state-back, state-on}
+
+-- An answer by its number: done, refused, not taken.
+abbrev nth-of : {A : Type 0} → A → List A → ℕ → A
+nth-of none [] n = none
+nth-of none (a ∷ more) zero = a
+nth-of none (a ∷ more) (suc n) = nth-of none more n
+
+abbrev by-number : {A : Type 0} → (done last : A) → (Refusal → A) → ℕ → A
+by-number done last f n =
+    nth-of last
+    (done ∷ f WrongLength ∷ f WrongTable ∷ f WrongState ∷ f Consumed ∷ f WrongArgument ∷ f ReachesStart ∷ f NoGoto ∷ f TooHigh ∷ f ChainTooLong ∷ f WalkTooLong ∷ f TooManyReadings ∷ [])
+    n
+
+refused-back : {A : Type 0} (done last : A) (f : Refusal → A) (k : Refusal) → by-number done last f (number k) ≡ f k
+refused-back done last f WrongLength = refl
+refused-back done last f WrongTable = refl
+refused-back done last f WrongState = refl
+refused-back done last f Consumed = refl
+refused-back done last f WrongArgument = refl
+refused-back done last f ReachesStart = refl
+refused-back done last f NoGoto = refl
+refused-back done last f TooHigh = refl
+refused-back done last f ChainTooLong = refl
+refused-back done last f WalkTooLong = refl
+refused-back done last f TooManyReadings = refl
+
+abbrev start-of : ℕ → StartAnswer
+start-of n = by-number start.Done start.Done start.Refused n
+
+start-back : (r : StartAnswer) → start-of (startNumber r) ≡ r
+start-back start.Done = refl
+start-back (start.Refused k) = refused-back start.Done start.Done start.Refused k
+
+abbrev feed-of : FeedNumbers → FeedAnswer
+feed-of m = by-number (fed.Done (m .errors) (m .walked)) (fed.NotTaken (m .errors) (m .walked)) fed.Refused (m .answer)
+
+feed-back : (r : FeedAnswer) → feed-of (feedNumbers r) ≡ r
+feed-back (fed.Done errors walked) = refl
+feed-back (fed.NotTaken errors walked) = refl
+feed-back (fed.Refused k) = refused-back (fed.Done 0 0) (fed.NotTaken 0 0) fed.Refused k
+
+abbrev stack-of : StackNumbers → StackAnswer
+stack-of m = by-number (stack.Read (m .height) (m .mark)) (stack.Read (m .height) (m .mark)) stack.Refused (m .answer)
+
+stack-back : (r : StackAnswer) → stack-of (stackNumbers r) ≡ r
+stack-back (stack.Read height mark) = refl
+stack-back (stack.Refused k) = refused-back (stack.Read 0 0) (stack.Read 0 0) stack.Refused k
+
+module _ (table state work : List ℕ) (r q : StartAnswer) (state₁ work₁ state₂ work₂ : List ℕ) (a : StartPromise table state work r state₁ work₁) (b : StartPromise table state work q state₂ work₂) where
+  same-number : startNumber r ≡ startNumber q
+  same-number = a .answers ∙ sym (b .answers)
+
+  -- the state by the number
+  same-state : (n : ℕ) → startNumber r ≡ n → state₁ ≡ state₂
+  same-state zero e = a .started e .exact ∙ sym (b .started (sym same-number ∙ e) .exact)
+  same-state (suc n) e = a .refused (λ z. omega arith) ∙ sym (b .refused (λ z. let y = same-number in omega arith))
+
+  pub start-determined : (r ≡ q) × (state₁ ≡ state₂) × (work₁ ≡ work₂)
+  start-determined = (sym (start-back r) ∙ ap start-of same-number ∙ start-back q, same-state (startNumber r) refl, a .cleared ∙ sym (b .cleared))
+
+pub question-determined : (call : Bool → QuestionAnswer) (state work : List ℕ) (r q : QuestionAnswer) (work₁ work₂ : List ℕ) → QuestionPromise call state work r work₁ → QuestionPromise call state work q work₂ → (r ≡ q) × (work₁ ≡ work₂)
+question-determined call state work r q work₁ work₂ a b = (a .answers ∙ sym (b .answers), a .cleared ∙ sym (b .cleared))
+
+pub stack-determined : (table state : List ℕ) (i : ℕ) (entries : List SeenEntry) (r q : StackAnswer) (entries₁ entries₂ : List SeenEntry) → StackPromise table state i entries r entries₁ → StackPromise table state i entries q entries₂ →
+    (r ≡ q) × (entries₁ ≡ entries₂)
+stack-determined table state i entries r q entries₁ entries₂ a b =
+    (sym (stack-back r) ∙ ap stack-of (a .answers ∙ sym (b .answers)) ∙ stack-back q, a .entries-are ∙ sym (b .entries-are))
+
+-- Readings that are the same but for identities look the same.
+same-plain : (s s′ : State) → SameState s s′ → plainState s ≡ plainState s′
+same-plain nothing nothing h = refl
+same-plain nothing (just rs) h = absurd h
+same-plain (just rs) nothing h = absurd h
+same-plain (just rs) (just rs′) h = ap {B = State} just (sym (renamed-plain rs rs′ h))
+
+module _ (table state work : List ℕ) (x : Term) (errors : List ErrorRecord) (r q : FeedAnswer) (state₁ work₁ state₂ work₂ : List ℕ) (errors₁ errors₂ : List ErrorRecord)
+    (a : FeedPromise table state work x errors r state₁ work₁ errors₁) (b : FeedPromise table state work x errors q state₂ work₂ errors₂) where
+  same-numbers : feedNumbers r ≡ feedNumbers q
+  same-numbers = a .answers ∙ sym (b .answers)
+
+  -- both are the definition's, each under identities of its own
+  same-states : SameState (stateFor table state₁) (stateFor table state₂)
+  same-states =
+      let s : State = feedOn table state work x errors .state in
+      state-on (stateFor table state₁) s (stateFor table state₂) (state-back s (stateFor table state₁) (a .readings)) (b .readings)
+
+  pub feed-determined : SameOutcome table r q state₁ state₂ work₁ work₂ errors₁ errors₂
+  feed-determined =
+      record {
+        answer = sym (feed-back r) ∙ ap feed-of same-numbers ∙ feed-back q;
+        states = same-states;
+        readings = same-plain (stateFor table state₁) (stateFor table state₂) same-states;
+        refused = λ h. a .refused h ∙ sym (b .refused (subst (λ (m : FeedNumbers). (1 ≤ m .answer) × (m .answer ≤ 11)) same-numbers h));
+        work = a .cleared ∙ sym (b .cleared);
+        errors = a .errors-are ∙ sym (b .errors-are);
+      }

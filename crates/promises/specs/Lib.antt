@@ -1,0 +1,5 @@
+-- The promises of the public calls, and what is claimed to follow from them.
+pub mod Buffers
+pub mod Calls
+pub mod Claims
+pub mod Runs
