@@ -1,6 +1,9 @@
-// What tools/bench measures from Rust: the check of a table file alone, and with one lookup behind it. Safe and ending is all that is said of them.
+// What tools/bench and tools/compare measure from Rust: the check of a table file alone and with one lookup behind it, a start, a feed, and a feed's parts. Safe and ending is all that is said of them.
 ghost use Rattle.table.specs.Answers.{Belongs};
+use machine::Machine;
+use covered::running;
 use meaning::StateNo;
+use meaning::Term;
 use meaning::View;
 use table::Checked;
 use table::Goto;
@@ -46,4 +49,61 @@ pub extern "C" fn bench_goto(table: &[u8], state: u16, nonterminal: u16) -> u32 
         Checked::Right(view) => target_of_goto(table, view, state, nonterminal),
         Checked::Wrong => 0,
     }
+}
+
+// The answer's number of a start.
+#[no_mangle]
+pub extern "C" fn bench_start(table: &[u8], state: &mut [u8], work: &mut [u8]) -> u32 {
+    let answer = Machine::start(table, &mut *state, &mut *work);
+    answer.number() as u32
+}
+
+// The answer's number of a feed; its error records are dropped.
+#[no_mangle]
+pub extern "C" fn bench_feed(
+    table: &[u8],
+    state: &mut [u8],
+    work: &mut [u8],
+    class: u16,
+    value: u32,
+    start: u32,
+    end: u32,
+) -> u32 {
+    let term = Term {
+        class,
+        value,
+        start,
+        end,
+    };
+    let run = running::feed_of(table, &mut *state, &mut *work, term, Machine::ERRORS);
+    let answer = run.answer;
+    let numbers = answer.numbers();
+    numbers.answer as u32
+}
+
+// A feed's part: the check of a state. 1 if the state is right, else 0.
+#[no_mangle]
+pub extern "C" fn bench_state(state: &[u8], states: u16) -> u32 {
+    if state.len() == state::STATE_LENGTH {
+        return state::valid_state(state, states) as u32;
+    }
+    0
+}
+
+// A feed's part: the cells in use are copied to the work area.
+#[no_mangle]
+pub extern "C" fn bench_load(state: &[u8], work: &mut [u8]) {
+    if state.len() == state::STATE_LENGTH {
+        if work.len() == state::WORK_LENGTH {
+            if state::cells_in_use(state) <= state::STATE_CELLS {
+                state::load(state, work);
+            }
+        }
+    }
+}
+
+// A feed's part: the clearing of the work area.
+#[no_mangle]
+pub extern "C" fn bench_clear(work: &mut [u8]) {
+    numbers::clear(work);
 }

@@ -1,9 +1,9 @@
 // A term is fed: what the trace says of it.
 use super::State;
 use super::Work;
+use covered::reading;
+use covered::running;
 use machine::Machine;
-use machine::reading;
-use machine::running;
 use meaning::StackAnswer;
 use meaning::Term;
 

@@ -22,18 +22,13 @@ use Rattle.questions.specs.Asking.{AsksState}
 use Rattle.state.specs.Layout.{readingsAt, marksAt}
 use Rattle.state.specs.Readings.{readingsFrom, readingsOf, countOf}
 use Rattle.promises.specs.Buffers.{lengthsRight, stateFor}
-use Rattle.machine.specs.Checks.{foundOf}
+use Rattle.checks.specs.Checks.{foundOf}
 use Rattle.promises.specs.Buffers.{workAfter}
 use Rattle.promises.specs.Calls.{QuestionPromise}
 use Rattle.machine.specs.Lines.{AsksLine, takesIn}
-use Rattle.machine.specs.declared.checking.Found.{Found}
-use Rattle.machine.specs.declared.checking.Found.the-variants as found
-use Rattle.machine.proofs.Checks.{state-long, work-long, RightFor, right-for, checked-refused, checked-right}
-
-pub some-readings : (state : List ℕ) (n : ℕ) → (n ≡ 0 → ⊥) → isNil (readingsFrom state readingsAt 0 n) ≡ false
-unfolding readingsFrom
-some-readings state zero z = absurd (z refl)
-some-readings state (suc n) z = refl
+use Rattle.checks.specs.declared.Found.{Found}
+use Rattle.checks.specs.declared.Found.the-variants as found
+use Rattle.checks.proofs.Checks.{some-readings, state-long, work-long, RightFor, right-for, checked-refused, checked-right}
 
 -- Takes, of a table and a state that were found right.
 module _ (table : List ℕ) (v : View) (state marks : List ℕ) (class n : ℕ) (y : AsksState table v state marks) (e : n ≡ countOf state) where

@@ -25,7 +25,7 @@ use Rattle.promises.specs.Buffers.{lengthsRight}
 use Rattle.promises.specs.Buffers.{workAfter}
 use Rattle.promises.specs.Calls.{StartPromise}
 use Rattle.machine.specs.Lines.{StartLine}
-use Rattle.machine.proofs.Checks.{view-states}
+use Rattle.checks.proofs.Checks.{view-states}
 
 start-target : (table : List ℕ) (a : Action) → a ≡ actionAnswer (actionOf (tableOf table) 0 2) → a .target ≡ stateNo (startState (tableOf table))
 unfolding actionAnswer startState

@@ -1,5 +1,2 @@
--- What the machine's calls promise.
-pub mod Checks
+-- What start and the questions ask and leave on buffers of the right lengths.
 pub mod Lines
-pub mod Reading
-pub mod Feeding

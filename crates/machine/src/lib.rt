@@ -1,4 +1,4 @@
-// The reading machine: its limits and its calls. Nothing else is for users; what is public beside it serves programs and exports.
+// The reading machine: its limits and its calls. Nothing else is for users.
 ghost use Rattle.promises.specs.Calls.{StartPromise, takesOn, canEndOn, canRecoverOn, QuestionPromise, StackPromise, FeedPromise};
 use meaning::Entry;
 use meaning::ErrorRecord;
@@ -10,9 +10,6 @@ use meaning::StartAnswer;
 use meaning::Term;
 
 mod asking;
-mod checking;
-pub mod reading;
-pub mod running;
 mod starting;
 
 pub struct Machine {}
@@ -40,13 +37,13 @@ impl Machine {
 
     pub const WORK_LENGTH: usize = state::WORK_LENGTH;
 
-    pub const ERRORS: usize = checking::ERROR_PLACES;
+    pub const ERRORS: usize = checks::ERROR_PLACES;
 
     // Makes a state buffer of any content the state of a new line.
     pub fn start(table: &[u8], state: &mut [u8], work: &mut [u8]) -> StartAnswer
         ensures { λ r. ⌜ StartPromise (now (table .entry)) (now (state .entry)) (now (work .entry)) r (now (state .exit)) (now (work .exit)) ⌝ }
     {
-        if checking::lengths_right(state, work) {
+        if checks::lengths_right(state, work) {
             let answer = starting::start_line(table, state);
             numbers::clear(work);
             return answer;
@@ -58,7 +55,7 @@ impl Machine {
     pub fn takes(table: &[u8], state: &[u8], work: &mut [u8], class: u16) -> QuestionAnswer
         ensures { λ r. ⌜ QuestionPromise (takesOn (now (table .entry)) (now (state .entry)) class) (now (state .entry)) (now (work .entry)) r (now (work .exit)) ⌝ }
     {
-        if checking::lengths_right(state, work) {
+        if checks::lengths_right(state, work) {
             let answer = asking::takes(
                 table,
                 state,
@@ -75,7 +72,7 @@ impl Machine {
     pub fn can_end(table: &[u8], state: &[u8], work: &mut [u8]) -> QuestionAnswer
         ensures { λ r. ⌜ QuestionPromise (canEndOn (now (table .entry)) (now (state .entry))) (now (state .entry)) (now (work .entry)) r (now (work .exit)) ⌝ }
     {
-        if checking::lengths_right(state, work) {
+        if checks::lengths_right(state, work) {
             let answer = asking::can_end(
                 table,
                 state,
@@ -91,7 +88,7 @@ impl Machine {
     pub fn can_recover(table: &[u8], state: &[u8], work: &mut [u8]) -> QuestionAnswer
         ensures { λ r. ⌜ QuestionPromise (canRecoverOn (now (table .entry)) (now (state .entry))) (now (state .entry)) (now (work .entry)) r (now (work .exit)) ⌝ }
     {
-        if checking::lengths_right(state, work) {
+        if checks::lengths_right(state, work) {
             let answer = asking::can_recover(
                 table,
                 state,
@@ -107,7 +104,7 @@ impl Machine {
     pub fn stack(table: &[u8], state: &[u8], number: u16, entries: &mut [Entry]) -> StackAnswer
         ensures { λ r. ⌜ StackPromise (now (table .entry)) (now (state .entry)) number (now (entries .entry)) r (now (entries .exit)) ⌝ }
     {
-        let read = reading::stack_of(table, state, number, entries.len());
+        let read = covered::reading::stack_of(table, state, number, entries.len());
         let list = read.entries;
         lists::entries::fill(entries, list);
         read.answer
@@ -123,7 +120,7 @@ impl Machine {
     ) -> FeedAnswer
         ensures { λ r. ⌜ FeedPromise (now (table .entry)) (now (state .entry)) (now (work .entry)) term (now (errors .entry)) r (now (state .exit)) (now (work .exit)) (now (errors .exit)) ⌝ }
     {
-        let run = running::feed_of(table, state, work, term, errors.len());
+        let run = covered::running::feed_of(table, state, work, term, errors.len());
         let list = run.errors;
         lists::errors::fill(errors, list);
         run.answer

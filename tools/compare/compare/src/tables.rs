@@ -23,11 +23,21 @@ pub struct Conflicts {
 /// The table, or `None` if the grammar does not fit the limits.
 pub fn table_of(grammar: &Grammar, lalr: bool, actions: Actions, chance: &mut Chance) -> Option<Table> {
     let states = item_states(grammar, lalr)?;
+    let rules = grammar.rules.iter().map(|r| rule_of(r.left, r.right.len(), actions, chance)).collect();
+    let mut table = unresolved(grammar, &states, rules);
+    if chance.percent(RESOLVED) {
+        resolve(&mut table, chance);
+    }
+    Table::decode(&table.encode())
+}
+
+/// The table of these item sets, with all conflicts kept; the rules stand in the grammar's order.
+pub fn unresolved(grammar: &Grammar, states: &[(Items, BTreeMap<Symbol, usize>)], rules: Vec<Rule>) -> Table {
     let mut table = Table {
         states: states.len() as u16,
         classes: grammar.classes,
         nonterms: grammar.nonterms,
-        rules: grammar.rules.iter().map(|r| rule_of(r.left, r.right.len(), actions, chance)).collect(),
+        rules,
         records: Vec::new(),
         gotos: Vec::new(),
         error_used: grammar.uses_error(),
@@ -35,10 +45,7 @@ pub fn table_of(grammar: &Grammar, lalr: bool, actions: Actions, chance: &mut Ch
     for (number, (items, next)) in states.iter().enumerate() {
         put_state(&mut table, grammar, number as u16, items, next);
     }
-    if chance.percent(RESOLVED) {
-        resolve(&mut table, chance);
-    }
-    Table::decode(&table.encode())
+    table
 }
 
 /// In this part of the tables some shift/reduce conflicts are resolved, as precedences do it.

@@ -20,8 +20,17 @@ thread_local! {
 }
 
 pub fn load(table: Table, dense: bool) {
+    choose(ready(table, dense));
+}
+
+pub fn ready(table: Table, dense: bool) -> &'static Loaded {
     let layout = Layout::new(&table, dense);
-    LOADED.set(Some(Box::leak(Box::new(Loaded { table, layout }))));
+    Box::leak(Box::new(Loaded { table, layout }))
+}
+
+/// From here on the original reads by this table.
+pub fn choose(table: &'static Loaded) {
+    LOADED.set(Some(table));
 }
 
 pub fn loaded() -> &'static Loaded {
@@ -63,10 +72,11 @@ impl SemanticValue for Value {
         _location: &mut Range<u32>,
     ) -> Result<(), Refused> {
         let rule = &loaded().table.rules[number];
-        let items = values.split_off(values.len() - rule.len as usize);
+        let bottom = values.len() - rule.len as usize;
+        let value = act(rule, &values[bottom..]).ok_or(Refused { rule: number, mark: *mark });
+        values.truncate(bottom);
         locations.truncate(locations.len() - rule.len as usize);
-        let value = act(rule, &items).ok_or(Refused { rule: number, mark: *mark })?;
-        values.push(Value(value));
+        values.push(Value(value?));
         *mark = mark.wrapping_add(rule.mark);
         Ok(())
     }

@@ -2,7 +2,7 @@
 use mathlib.Core.Path.{_≡_}
 use lib.ListN.{length}
 use Rattle.meaning.specs.Calls.{canRecoverCall}
-use Rattle.machine.proofs.Checks.{work-long}
+use Rattle.checks.proofs.Checks.{work-long}
 use Rattle.machine.proofs.Asks.{asks-line, asked-length, asked-done}
 use borrow.Author.Needs.{needs}
 use Rattle.machine.proofs.Machine.can_recover.Statement.{statement}

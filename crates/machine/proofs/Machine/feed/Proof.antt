@@ -57,15 +57,15 @@ use Rattle.lists.proofs.errors.fill as fill
 use Rattle.lists.proofs.errors.fill.Symbol as fill-def
 use Rattle.lists.proofs.errors.fill.Symbol.{name as #fill}
 use Rattle.lists.proofs.errors.fill.Met as fill-thm
-use Rattle.machine.specs.Feeding.{RunPromise}
-use Rattle.machine.specs.declared.running.FeedRun.{FeedRun}
-use Rattle.machine.proofs.Feeds.{feed-filled}
-use Rattle.machine.proofs.running.FeedRun as I
-use Rattle.machine.proofs.running.FeedRun.Laws as I′
-use Rattle.machine.proofs.running.feed_of as inner
-use Rattle.machine.proofs.running.feed_of.Symbol as inner-def
-use Rattle.machine.proofs.running.feed_of.Symbol.{name as #feed-of}
-use Rattle.machine.proofs.running.feed_of.Met as inner-thm
+use Rattle.covered.specs.Feeding.{RunPromise}
+use Rattle.covered.specs.declared.running.FeedRun.{FeedRun}
+use Rattle.covered.proofs.Feeds.{feed-filled}
+use Rattle.covered.proofs.running.FeedRun as I
+use Rattle.covered.proofs.running.FeedRun.Laws as I′
+use Rattle.covered.proofs.running.feed_of as inner
+use Rattle.covered.proofs.running.feed_of.Symbol as inner-def
+use Rattle.covered.proofs.running.feed_of.Symbol.{name as #feed-of}
+use Rattle.covered.proofs.running.feed_of.Met as inner-thm
 use Rattle.machine.proofs.Machine.feed.Key.{name as #feed}
 use Rattle.machine.proofs.Machine.feed as f
 use Rattle.machine.proofs.Machine.feed.Statement as stated
@@ -240,5 +240,5 @@ feed-spec 𝓤 H 𝓜 𝓖 𝓡 =
     entered 𝓤 H (tripleOf 𝓤 H (𝓖 .A) f.signature (f.spec 𝓤 H (𝓖 .A) (𝓜 .mem) (𝓡 .run)))
     (tables 𝓤 H 𝓜 𝓡 code.env .C) (tables 𝓤 H 𝓜 𝓡 code.env .Λ) #feed code.function (code.unfolded 𝓤 H 𝓜 𝓡)
     (feed-meets 𝓤 H (𝓖 .A) (givenOf 𝓤 H 𝓜 𝓖) (𝓜 .mem) (𝓡 .run) (tablesOf 𝓤 H 𝓜 (tables 𝓤 H 𝓜 𝓡 code.env))
-    (cited 𝓤 H (InnerOf 𝓤 H (𝓖 .A) (𝓜 .mem) (𝓡 .run)) 𝓜 𝓡 code.env #feed-of inner-def.routine code.calls-machine·running·feed-of (inner-thm.met 𝓤 H 𝓜 𝓖 𝓡))
+    (cited 𝓤 H (InnerOf 𝓤 H (𝓖 .A) (𝓜 .mem) (𝓡 .run)) 𝓜 𝓡 code.env #feed-of inner-def.routine code.calls-covered·running·feed-of (inner-thm.met 𝓤 H 𝓜 𝓖 𝓡))
     (cited 𝓤 H (FillOf 𝓤 H (𝓖 .A) (𝓜 .mem) (𝓡 .run)) 𝓜 𝓡 code.env #fill fill-def.routine code.calls-lists·errors·fill (fill-thm.met 𝓤 H 𝓜 𝓖 𝓡)))

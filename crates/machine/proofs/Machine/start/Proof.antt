@@ -1,5 +1,5 @@
 -- `Machine::start` meets its contract. Assumes nothing.
-use Rattle.machine.proofs.Checks.{state-long}
+use Rattle.checks.proofs.Checks.{state-long}
 use Rattle.machine.proofs.Starts.{start-length, start-done}
 use borrow.Author.Needs.{needs}
 use Rattle.machine.proofs.Machine.start.Statement.{statement}

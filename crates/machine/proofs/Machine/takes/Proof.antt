@@ -5,7 +5,7 @@ use lib.ListN.{length}
 use borrow.Rule.Slice.PartMut.{same-len-mid}
 use Rattle.numbers.specs.Zeros.{length-zeros}
 use Rattle.meaning.specs.Calls.{takesCall}
-use Rattle.machine.proofs.Checks.{work-long}
+use Rattle.checks.proofs.Checks.{work-long}
 use Rattle.machine.proofs.Asks.{asks-line, asked-length, asked-done}
 use borrow.Author.Needs.{needs}
 use Rattle.machine.proofs.Machine.takes.Statement.{statement}

@@ -1,0 +1,2 @@
+-- What the checks of every call find.
+pub mod Checks

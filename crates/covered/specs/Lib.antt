@@ -1,0 +1,3 @@
+-- What the covered calls ask inside and promise.
+pub mod Reading
+pub mod Feeding
