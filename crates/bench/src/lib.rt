@@ -1,7 +1,7 @@
 // What tools/bench and tools/compare measure from Rust: the check of a table file alone and with one lookup behind it, a start, a feed, and a feed's parts. Safe and ending is all that is said of them.
 ghost use Rattle.table.specs.Answers.{Belongs};
-use machine::Machine;
 use covered::running;
+use machine::Machine;
 use meaning::StateNo;
 use meaning::Term;
 use meaning::View;

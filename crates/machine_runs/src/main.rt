@@ -1,37 +1,31 @@
-// Calls the machine as a user does: start and the three questions, on tables, states, lengths and classes that are right and that are not.
-use libc::STDOUT_FILENO;
+// Makes every call of the machine, on tables, states, lengths and classes that are right and that are not.
+use console::State;
+use console::Work;
+use console::saying;
 use machine::Machine;
 use meaning::QuestionAnswer;
 use meaning::Refusal;
 use meaning::StartAnswer;
 
-type State = [u8; 18532];
-
-type Work = [u8; 46464];
-
-fn say(text: &[u8]) {
-    io::write_all(STDOUT_FILENO, text);
-}
+mod listed;
 
 fn say_refusal(refusal: Refusal) {
-    say(b" ");
-    io::print_decimal(STDOUT_FILENO, refusal.number() as u64);
-    say(b"\n");
+    saying::number_line(b" ", refusal.number() as u64);
 }
 
 fn say_start(answer: StartAnswer) {
-    say(b"  start");
+    saying::say(b"  start");
     match answer {
-        StartAnswer::Done => say(b" 0\n"),
+        StartAnswer::Done => saying::line(b" 0"),
         StartAnswer::Refused(refusal) => say_refusal(refusal),
     }
 }
 
 fn say_question(asked: &[u8], answer: QuestionAnswer) {
-    say(asked);
+    saying::say(asked);
     match answer {
-        QuestionAnswer::Yes => say(b" yes\n"),
-        QuestionAnswer::No => say(b" no\n"),
+        QuestionAnswer::Yes => saying::line(b" yes"),
+        QuestionAnswer::No => saying::line(b" no"),
         QuestionAnswer::Refused(refusal) => say_refusal(refusal),
     }
 }
@@ -57,24 +51,27 @@ fn started(table: &[u8], state: &mut State, work: &mut Work) {
 
 // A buffer of zeros is a state without readings.
 fn consumed(table: &[u8], work: &mut Work) {
-    say(b"consumed\n");
-    let state = [0u8; 18532];
+    saying::line(b"consumed");
+    let mut state = [0u8; 18532];
     ask(table, &state, &mut *work);
+    listed::refused(table, &mut state, &mut *work);
 }
 
 // One number of the state is damaged: 17 readings.
 fn damaged(table: &[u8], state: &mut State, work: &mut Work) {
-    say(b"17 readings\n");
+    saying::line(b"17 readings");
     state[18529] = 17;
     ask(table, state, &mut *work);
+    listed::refused(table, state, work);
 }
 
 // One byte is missing.
 fn short(table: &[u8], work: &mut Work) {
-    say(b"a state buffer that is too short\n");
+    saying::line(b"a state buffer that is too short");
     let mut state = [0u8; 18531];
     say_start(Machine::start(table, &mut state, &mut *work));
     ask(table, &state, &mut *work);
+    listed::refused(table, &mut state, &mut *work);
 }
 
 fn run(path: &[u8]) {
@@ -86,14 +83,14 @@ fn run(path: &[u8]) {
     let mut bytes = io::buffer();
     let n = io::read_full(file, &mut bytes);
     libc::close(file);
-    say(path);
-    say(b"\n");
+    saying::line(path);
     let mut state = [9u8; 18532];
     let mut work = [9u8; 46464];
     started(&bytes[..n], &mut state, &mut work);
     consumed(&bytes[..n], &mut work);
     damaged(&bytes[..n], &mut state, &mut work);
     short(&bytes[..n], &mut work);
+    listed::lines(&bytes[..n], &mut state, &mut work);
 }
 
 fn main() {

@@ -1,0 +1,2 @@
+-- Laws of lending.
+pub mod Fields
