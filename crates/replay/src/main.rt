@@ -18,20 +18,20 @@ mod commands;
 mod tables;
 
 // How many bytes the table has, none if there is no table; and whether there is a state.
-struct Session {
+struct Held {
     table: usize,
     started: bool,
 }
 
-fn fresh() -> Session {
-    Session {
+fn fresh() -> Held {
+    Held {
         table: 0,
         started: false,
     }
 }
 
 // A new table, which forgets the old one and its state; a start on it is its check, and leaves no state that a command sees.
-fn load(line: &[u8], table: &mut Table, state: &mut State, work: &mut Work) -> Session {
+fn load(line: &[u8], table: &mut Table, state: &mut State, work: &mut Work) -> Held {
     match tables::load(line, &mut *table) {
         Loaded::Not => {
             saying::not_right(b"not a command: ", line);
@@ -40,7 +40,7 @@ fn load(line: &[u8], table: &mut Table, state: &mut State, work: &mut Work) -> S
         Loaded::Bytes(length) => {
             let checked = Machine::start(lines::first(table, length), &mut *state, &mut *work);
             saying::number_line(b"table ", checked.number() as u64);
-            Session {
+            Held {
                 table: length,
                 started: false,
             }
@@ -80,15 +80,9 @@ fn command(line: &[u8], table: &[u8], state: &mut State, work: &mut Work, starte
     }
 }
 
-fn answer(
-    line: &[u8],
-    table: &mut Table,
-    state: &mut State,
-    work: &mut Work,
-    session: Session,
-) -> Session {
+fn answer(line: &[u8], table: &mut Table, state: &mut State, work: &mut Work, held: Held) -> Held {
     if commands::skipped(line) {
-        return session;
+        return held;
     }
     if words::begins(line, b"case ") {
         saying::line(line);
@@ -97,16 +91,16 @@ fn answer(
     if commands::is_table(line) {
         return load(line, &mut *table, &mut *state, &mut *work);
     }
-    let bytes = lines::first(table, session.table);
-    Session {
-        table: session.table,
-        started: command(line, bytes, &mut *state, &mut *work, session.started),
+    let bytes = lines::first(table, held.table);
+    Held {
+        table: held.table,
+        started: command(line, bytes, &mut *state, &mut *work, held.started),
     }
 }
 
 // The lines, one after the other; the loop counts down from a number that no script uses up.
 fn run(piece: &mut Piece, line: &mut Line, table: &mut Table, state: &mut State, work: &mut Work) {
-    let mut session = fresh();
+    let mut held = fresh();
     let mut rest = lines::nothing();
     let mut turns = u64::MAX;
     while turns > 0 {
@@ -121,12 +115,12 @@ fn run(piece: &mut Piece, line: &mut Line, table: &mut Table, state: &mut State,
                 rest: after,
             } => {
                 rest = after;
-                session = answer(
+                held = answer(
                     lines::first(line, length),
                     &mut *table,
                     &mut *state,
                     &mut *work,
-                    session,
+                    held,
                 );
             }
         }
