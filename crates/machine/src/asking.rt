@@ -1,4 +1,4 @@
-// The questions on buffers of the right lengths, over the marks' part of the work area.
+// The questions on buffers of the right lengths, over the marks' part of the work area. Private: only `Machine` calls them, and it has looked at the lengths.
 ghost use mathlib.Core.Path.{_≡_};
 ghost use mathlib.Core.Bool.{true};
 ghost use Rattle.meaning.specs.Calls.{takesCall, canEndCall, canRecoverCall};

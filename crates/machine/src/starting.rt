@@ -1,4 +1,4 @@
-// Start on buffers of the right lengths: the table's start state goes into the state buffer.
+// Start on buffers of the right lengths: the table's start state goes into the state buffer. Private: only `Machine` calls it, and it has looked at the lengths.
 ghost use mathlib.Core.Path.{_≡_};
 ghost use lib.ListN.{length};
 ghost use Rattle.state.specs.Layout.{stateLength};
