@@ -38,6 +38,7 @@ use Rattle.feeding.specs.declared.Ended.{Ended}
 use Rattle.feeding.specs.declared.Fed.{Fed as FedCode}
 use Rattle.feeding.specs.declared.Fed.the-variants as fed
 use Rattle.gathering.proofs.Laws.{none-kept}
+use Rattle.promises.proofs.Identities.{renamed-self}
 use Rattle.promises.specs.Buffers.{lengthsRight, feedLengths, stateFor, workAfter}
 use Rattle.promises.specs.Calls.{Renamed, SameState, Spared, feedOn}
 use Rattle.checks.specs.Checks.{foundOf}
@@ -49,19 +50,9 @@ use Rattle.checks.proofs.Checks.{some-readings}
 use Rattle.checks.proofs.Checks.{state-long, work-long, view-states, RightFor, right-for, checked-refused, checked-right}
 
 -- A state is itself under no other identities.
-same-entries : (s : List Entry) → s ≡ map (renEntry (λ a. a)) s
-same-entries [] = refl
-same-entries (e ∷ s) = ap (λ (l : List Entry). e ∷ l) (same-entries s)
-
-same-readings : (rs : List Reading) → rs ≡ map (renReading (λ a. a)) rs
-same-readings [] = refl
-same-readings (r ∷ rs) =
-    let a = same-entries (r .stack) in let b = same-readings rs in
-    λ i. record { mark = r .mark; stack = a i } ∷ b i
-
 same-state : (s : State) → SameState s s
 same-state nothing = tt
-same-state (just rs) = record { rename = λ a. a; same = same-readings rs; apart = λ a b p q e. e }
+same-state (just rs) = renamed-self rs
 
 spared-same : (state : List ℕ) → Spared state state
 spared-same state = record { long = refl; cells = λ j p q. refl; slots = λ j p q. refl }
