@@ -6,13 +6,12 @@ ghost use Rattle.chains.specs.Simulated.{stackOf};
 ghost use Rattle.chains.specs.Planning.{Asks};
 use super::Planned;
 use super::plan;
+use meaning::ERROR_CLASS;
 use meaning::QuestionAnswer;
 use meaning::View;
 
 // No walk needs more room, so a question is never refused for want of it.
 const ENOUGH_ROOM: usize = 1025;
-
-const ERROR_CLASS: u16 = 1;
 
 // Whether a stack can be planned at a class.
 pub fn can_plan(

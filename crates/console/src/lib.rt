@@ -1,4 +1,4 @@
-// What the programs share: lines of standard input, words on standard output, terms that are fed. Safe and ending is all that is proved of it; what it does is held to by the programs' stored outputs.
+// What the programs share: lines of standard input, words on standard output, terms that are fed. Of a fed term it is proved what the trace says; of the rest, that it is safe and ends: what it does is held to by the stored outputs.
 pub mod lines;
 pub mod saying;
 pub mod terms;

@@ -1,4 +1,7 @@
 // A term is fed: what the trace says of it.
+ghost use mathlib.Core.Path.{_≡_};
+ghost use lib.Dec.{ltb};
+ghost use Rattle.console.specs.Tracing.{readingsLeft, TracedIs};
 use super::State;
 use super::Work;
 use covered::reading;
@@ -14,7 +17,9 @@ pub struct Traced {
     pub walked: u32,
 }
 
-fn has_reading(table: &[u8], state: &State, i: u16) -> bool {
+fn has_reading(table: &[u8], state: &State, i: u16) -> bool
+    ensures { λ r. ⌜ r ≡ ltb i (readingsLeft (now (table .entry)) (now (state .entry))) ⌝ }
+{
     let read = reading::stack_of(table, state, i, 64);
     let answer = read.answer;
     match answer {
@@ -24,7 +29,9 @@ fn has_reading(table: &[u8], state: &State, i: u16) -> bool {
 }
 
 // How many readings are left: the first number that none has.
-fn readings_left(table: &[u8], state: &State) -> u16 {
+fn readings_left(table: &[u8], state: &State) -> u16
+    ensures { λ r. ⌜ r ≡ readingsLeft (now (table .entry)) (now (state .entry)) ⌝ }
+{
     let mut i: u16 = 0;
     while i < Machine::READINGS {
         if !has_reading(table, state, i) {
@@ -35,7 +42,9 @@ fn readings_left(table: &[u8], state: &State) -> u16 {
     i
 }
 
-pub fn feed_term(table: &[u8], state: &mut State, work: &mut Work, term: Term) -> Traced {
+pub fn feed_term(table: &[u8], state: &mut State, work: &mut Work, term: Term) -> Traced
+    ensures { λ r. ⌜ TracedIs (now (table .entry)) (now (state .entry)) (now (work .entry)) term r (now (state .exit)) (now (work .exit)) ⌝ }
+{
     let run = running::feed_of(table, &mut *state, &mut *work, term, Machine::ERRORS);
     let answer = run.answer;
     let numbers = answer.numbers();

@@ -27,16 +27,14 @@ kept-list table state x ys = refl
 
 module _ (table state work : List ℕ) (x : Term) (ys : List ErrorRecord) (r : FeedRun) (state′ work′ : List ℕ) (p : RunPromise table state work x (length ys) r state′ work′) where
   filled-by : (b : Bool) → eqb (length ys) 32 ≡ b → filled (r .errors .list) ys (stored 32 (length ys) (r .errors .count)) ≡ feedOn table state work x ys .errors
-  filled-by true e = rw (e, le-leb (r .errors .count) 32 (p .few)) (p .errors-are ys refl)
+  filled-by true e = rw (e, le-leb (r .errors .count) 32 (p .line .few)) (p .line .leaves ys .errors-are)
   filled-by false e = rw (e, feed-short state work (length ys) e) (kept-list table state x ys)
 
   pub feed-filled : (n : ℕ) (zs : List ErrorRecord) → n ≡ stored 32 (length ys) (r .errors .count) → zs ≡ filled (r .errors .list) ys n → FeedPromise table state work x ys (r .answer) state′ work′ zs
   feed-filled n zs e f =
+      let l = p .line .leaves ys in
       record {
-        answers = p .answers ys refl;
-        readings = p .readings ys refl;
-        refused = p .refused;
-        spared = p .spared;
-        errors-are = f ∙ ap (filled (r .errors .list) ys) e ∙ filled-by (eqb (length ys) 32) refl;
+        leaves =
+            record { answers = l .answers; readings = l .readings; refused = l .refused; spared = l .spared; errors-are = f ∙ ap (filled (r .errors .list) ys) e ∙ filled-by (eqb (length ys) 32) refl };
         cleared = p .cleared;
       }

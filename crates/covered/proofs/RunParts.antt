@@ -9,6 +9,7 @@ use lib.ListN.{length}
 use borrow.Author.Tests.{lt-ltb, le-ltb, le-leb, lt-leb}
 use Rattle.meaning.specs.Answers.{feedNumbers}
 use Rattle.meaning.specs.Basics.{if_then_else_, either}
+use Rattle.meaning.specs.Calls.{wrongClass, wrongTerm}
 use Rattle.meaning.specs.Feeding.{First, refuses, settles, mustRecover, first, finish, feed}
 use Rattle.meaning.specs.Outcome.{Fed, refusal}
 use Rattle.meaning.specs.Recovery.{recover}
@@ -36,21 +37,21 @@ use Rattle.feeding.specs.declared.First.{First as FirstCode}
 use Rattle.feeding.specs.declared.First.the-variants as at-first
 use Rattle.gathering.specs.Gathering.{Gathered}
 use Rattle.recovery.specs.Recovering.{RecoverReady}
-use Rattle.covered.specs.Feeding.{wrongFor, runOf, StagesReady, fedIn, EndsReady, EndedRun}
+use Rattle.covered.specs.Feeding.{runOf, StagesReady, fedIn, EndsReady, EndedRun}
 use Rattle.covered.specs.declared.running.FeedRun.{FeedRun}
 
 -- Check 5.
 module _ (classes : ℕ) (x : Term) where
-  pub wrong-low : x .class < 3 → true ≡ wrongFor classes x
-  unfolding wrongFor
+  pub wrong-low : x .class < 3 → true ≡ wrongTerm classes x
+  unfolding wrongTerm wrongClass
   wrong-low h = rw (lt-ltb (x .class) 3 h)
 
-  pub wrong-high : 3 ≤ x .class → classes ≤ x .class → true ≡ wrongFor classes x
-  unfolding wrongFor
+  pub wrong-high : 3 ≤ x .class → classes ≤ x .class → true ≡ wrongTerm classes x
+  unfolding wrongTerm wrongClass
   wrong-high h l = rw (le-ltb (x .class) 3 h, le-leb classes (x .class) l)
 
-  pub wrong-span : 3 ≤ x .class → x .class < classes → ltb (x .end) (x .start) ≡ wrongFor classes x
-  unfolding wrongFor
+  pub wrong-span : 3 ≤ x .class → x .class < classes → ltb (x .end) (x .start) ≡ wrongTerm classes x
+  unfolding wrongTerm wrongClass
   wrong-span h l = rw (le-ltb (x .class) 3 h, lt-leb classes (x .class) l)
 
 -- The answer.

@@ -1,20 +1,19 @@
 -- The ways out of the covered feed. Assumes nothing.
 use mathlib.Core.Path.{_≡_, refl, sym, ap, _∙_, subst}
 use mathlib.Core.Bool.{Bool, true, false}
-use mathlib.Core.List.{List, [], _∷_, _++_, map}
-use Prim.Native.Nat.{ℕ, zero, suc, _+_, _-_, _*_, _<_, _≤_}
+use mathlib.Core.List.{List, map}
+use Prim.Native.Nat.{ℕ, _+_, _-_, _*_, _≤_}
 use native.Mathlib.Omega.{arith}
-use lib.Dec.{eqb, ltb, leb}
+use lib.Dec.{eqb}
 use lib.ListN.{length}
-use borrow.Author.Tests.{eqb-true, eq-eqb, ne-eqb, lt-ltb, le-ltb, lt-leb, le-leb}
-use Rattle.meaning.specs.Answers.{done, notTaken, number, feedNumbers}
-use Rattle.meaning.specs.Basics.{if_then_else_, either, isNil, just, nothing}
-use Rattle.meaning.specs.Calls.{State, FeedCall, feedRefused, feedEnded, feedCall, wrongTerm, written}
+use Rattle.meaning.specs.Answers.{done, notTaken, feedNumbers}
+use Rattle.meaning.specs.Basics.{if_then_else_, isNil, just}
+use Rattle.meaning.specs.Calls.{State, FeedCall, feedRefused, feedEnded, feedRight, feedCall, wrongTerm, written}
 use Rattle.meaning.specs.Feeding.{feed}
-use Rattle.meaning.specs.Identities.{renEntry, renReading}
+use Rattle.meaning.specs.Identities.{renReading}
 use Rattle.meaning.specs.Outcome.{Fed, refusal}
-use Rattle.meaning.specs.Readings.{Entry, Reading}
-use Rattle.meaning.specs.TableFile.{Table, tableOf, viewOf}
+use Rattle.meaning.specs.Readings.{Reading}
+use Rattle.meaning.specs.TableFile.{Table, tableOf}
 use Rattle.meaning.specs.declared.ErrorRecord.{ErrorRecord}
 use Rattle.meaning.specs.declared.FeedAnswer.the-variants as fed-answer
 use Rattle.meaning.specs.declared.Refusal.{Refusal}
@@ -37,48 +36,34 @@ use Rattle.feeding.specs.Ending.{Holds, FedIs}
 use Rattle.feeding.specs.declared.Ended.{Ended}
 use Rattle.feeding.specs.declared.Fed.{Fed as FedCode}
 use Rattle.feeding.specs.declared.Fed.the-variants as fed
+use Rattle.gathering.specs.Gathering.{noErrors}
 use Rattle.gathering.proofs.Laws.{none-kept}
-use Rattle.promises.proofs.Identities.{renamed-self}
+use Rattle.promises.proofs.Identities.{state-self}
 use Rattle.promises.specs.Buffers.{lengthsRight, feedLengths, stateFor, workAfter}
-use Rattle.promises.specs.Calls.{Renamed, SameState, Spared, feedOn}
+use Rattle.promises.specs.Calls.{SameState, Spared, FeedLeaves, feedFor}
 use Rattle.checks.specs.Checks.{foundOf}
-use Rattle.covered.specs.Feeding.{refusedRun, wrongFor, StagesReady, FeedLine, fedIn, EndsReady, EndedRun, feedIn, feedLine, RunLine, RunPromise}
+use Rattle.covered.specs.Feeding.{refusedRun, StagesReady, FeedLine, fedIn, EndsReady, EndedRun, feedIn, feedLine, RunLine, RunPromise}
 use Rattle.checks.specs.declared.Found.{Found}
 use Rattle.checks.specs.declared.Found.the-variants as found
 use Rattle.covered.specs.declared.running.FeedRun.{FeedRun}
-use Rattle.checks.proofs.Checks.{some-readings}
-use Rattle.checks.proofs.Checks.{state-long, work-long, view-states, RightFor, right-for, checked-refused, checked-right}
-
--- A state is itself under no other identities.
-same-state : (s : State) → SameState s s
-same-state nothing = tt
-same-state (just rs) = renamed-self rs
+use Rattle.checks.proofs.Checks.{some-readings, state-long, work-long, view-states, RightFor, right-for, checked-refused, checked-right}
 
 spared-same : (state : List ℕ) → Spared state state
 spared-same state = record { long = refl; cells = λ j p q. refl; slots = λ j p q. refl }
 
 -- A refusal leaves the state as it was.
-pub line-refused : (table state : List ℕ) (call : List ErrorRecord → FeedCall) (k : Refusal) → ((ys : List ErrorRecord) → call ys ≡ feedRefused (stateFor table state) ys k) → RunLine table state call (refusedRun k) state
+pub line-refused : (table state : List ℕ) (call : List ErrorRecord → FeedCall) (k : Refusal) → ((ys : List ErrorRecord) → feedRefused (stateFor table state) ys k ≡ call ys) → RunLine table state call (refusedRun k) state
 line-refused table state call k e =
     record {
-      answers = λ ys. sym (ap (λ (c : FeedCall). c .says) (e ys));
-      readings = λ ys. subst (λ (c : FeedCall). SameState (c .state) (stateFor table state)) (sym (e ys)) (same-state (stateFor table state));
-      refused = λ p. refl;
-      spared = spared-same state;
-      errors-are = λ ys. none-kept ys ∙ sym (ap (λ (c : FeedCall). c .errors) (e ys));
+      leaves = λ ys.
+          subst (λ (c : FeedCall). FeedLeaves table state c (fed-answer.Refused k) state (filled (noErrors .list) ys 0)) (e ys)
+          (record { answers = refl; readings = state-self (stateFor table state); refused = λ p. refl; spared = spared-same state; errors-are = none-kept ys });
       few = omega arith;
     }
 
 pub line-as : (table state : List ℕ) (call call′ : List ErrorRecord → FeedCall) (r : FeedRun) (state′ : List ℕ) → ((ys : List ErrorRecord) → call ys ≡ call′ ys) → RunLine table state call r state′ → RunLine table state call′ r state′
 line-as table state call call′ r state′ e y =
-    record {
-      answers = λ ys. y .answers ys ∙ ap (λ (c : FeedCall). c .says) (e ys);
-      readings = λ ys. subst (λ (c : FeedCall). SameState (c .state) (stateFor table state′)) (e ys) (y .readings ys);
-      refused = y .refused;
-      spared = y .spared;
-      errors-are = λ ys. y .errors-are ys ∙ ap (λ (c : FeedCall). c .errors) (e ys);
-      few = y .few;
-    }
+    record { leaves = λ ys. subst (λ (c : FeedCall). FeedLeaves table state c (r .answer) state′ (filled (r .errors .list) ys (r .errors .count))) (e ys) (y .leaves ys); few = y .few }
 
 -- On a table and a state that were found right.
 module _ (table : List ℕ) (view : View) (state work : List ℕ) (y : StagesReady table view state work) (x : Term) where
@@ -91,42 +76,41 @@ module _ (table : List ℕ) (view : View) (state work : List ℕ) (y : StagesRea
   state-here : stateFor table state ≡ just (readingsOf state)
   state-here = rw valid-here
 
+  -- a refusal of the definition, which names the readings
+  refused-here : (ys : List ErrorRecord) (k : Refusal) → feedRefused (stateFor table state) ys k ≡ feedRefused (just (readingsOf state)) ys k
+  refused-here ys k = ap (λ (s : State). feedRefused s ys k) state-here
+
   pub right-consumed : (n : ℕ) (r : FeedRun) → n ≡ countOf state → n ≡ 0 → r ≡ refusedRun Consumed → RunLine table state (feedIn table state x) r state
-  unfolding feedIn readingsFrom
-  right-consumed n r e z g = rw g (line-refused table state (feedIn table state x) Consumed (λ ys. rw (nil (countOf state) (sym e ∙ z))))
+  unfolding feedRight readingsFrom
+  right-consumed n r e z g = rw g (line-refused table state (feedIn table state x) Consumed (λ ys. refused-here ys Consumed ∙ rw (nil (countOf state) (sym e ∙ z))))
     where
       nil : (k : ℕ) → k ≡ 0 → isNil (readingsFrom state 18432 0 k) ≡ true
       nil k q = rw q
 
-  module _ (n : ℕ) (e : n ≡ countOf state) (z : n ≡ 0 → ⊥) (b : Bool) (f : b ≡ wrongFor (view .counts .classes) x) where
+  module _ (n : ℕ) (e : n ≡ countOf state) (z : n ≡ 0 → ⊥) (b : Bool) (f : b ≡ wrongTerm (view .counts .classes) x) where
     some : isNil (readingsOf state) ≡ false
     some = ap (λ (k : ℕ). isNil (readingsFrom state 18432 0 k)) (sym e) ∙ some-readings state n z
 
-    wrong-is : wrongTerm (tableOf table) x ≡ b
-    unfolding wrongTerm wrongFor tableOf
-    wrong-is = sym (f ∙ ap (λ (v : View). wrongFor (v .counts .classes) x) (y .belongs .is))
+    wrong-is : wrongTerm (tableOf table .counts .classes) x ≡ b
+    unfolding tableOf
+    wrong-is = sym (f ∙ ap (λ (v : View). wrongTerm (v .counts .classes) x) (y .belongs .is))
 
     pub right-wrong : (r : FeedRun) → b ≡ true → r ≡ refusedRun WrongArgument → RunLine table state (feedIn table state x) r state
-    unfolding feedIn
-    right-wrong r g h = rw h (line-refused table state (feedIn table state x) WrongArgument (λ ys. rw (some, wrong-is, g)))
+    unfolding feedRight
+    right-wrong r g h = rw h (line-refused table state (feedIn table state x) WrongArgument (λ ys. refused-here ys WrongArgument ∙ rw (some, wrong-is, g)))
 
     abbrev fed-here : Fed
     fed-here = feed (tableOf table) x (readingsOf state) (usedOf state)
 
     goes : b ≡ false → (ys : List ErrorRecord) → feedEnded ys fed-here ≡ feedIn table state x ys
-    unfolding feedIn
+    unfolding feedRight
     goes g ys = rw (some, wrong-is, g)
 
     module _ (g : b ≡ false) (q : FedCode) (work₁ : List ℕ) (h : FedIs fed-here (readingsOf state) (usedOf state) work₁ q) where
       pub right-refused : (k : Refusal) (r : FeedRun) → q ≡ fed.Refused k → r ≡ refusedRun k → RunLine table state (feedIn table state x) r state
       right-refused k r u v =
           let is : fed-here ≡ refusal k (readingsOf state) (usedOf state) = subst (FedIs fed-here (readingsOf state) (usedOf state) work₁) u h in
-          rw v (line-refused table state (feedIn table state x) k (λ ys. sym (goes g ys) ∙ ap (feedEnded ys) is ∙ as-refused ys))
-        where
-          as-refused : (ys : List ErrorRecord) → feedEnded ys (refusal k (readingsOf state) (usedOf state)) ≡ feedRefused (stateFor table state) ys k
-          as-refused ys =
-              let a = state-here in
-              λ i. record { says = record { answer = number k; errors = 0; walked = 0 }; state = sym a i; errors = ys }
+          rw v (line-refused table state (feedIn table state x) k (λ ys. refused-here ys k ∙ sym (ap (feedEnded ys) is) ∙ goes g ys))
 
       module _ (ended : Ended) (u : q ≡ fed.Ended ended) where
         held : Holds work₁ ended fed-here
@@ -142,11 +126,14 @@ module _ (table : List ℕ) (view : View) (state work : List ℕ) (y : StagesRea
         pub right-ended : (r : FeedRun) (state′ : List ℕ) → EndedRun (fedIn work₁ ended) state r state′ → RunLine table state (feedIn table state x) r state′
         right-ended r state′ d =
             line-as table state (λ ys. feedEnded ys fed-here) (feedIn table state x) r state′ (goes g) (record {
-              answers = λ ys. numbers;
-              readings = λ ys. subst (SameState (just (fed-here .readings))) (sym after) (record { rename = c .rename; same = refl; apart = c .apart });
-              refused = λ p. absurd (not-refused (ended .taken) (ap (λ (m : FeedNumbers). m .answer) (d .answers)) p);
-              spared = record { long = d .long; cells = c .cells; slots = subst (λ (k : ℕ). Agree state′ state (18432 + 6 * k) (18528 - (18432 + 6 * k))) (sym (c .count)) (c .slots) };
-              errors-are = λ ys. d .errors-are ys ∙ ap (λ (l : List ErrorRecord). written l ys) (held .errors);
+              leaves = λ ys.
+                  record {
+                    answers = numbers;
+                    readings = subst (SameState (just (fed-here .readings))) (sym after) (record { rename = c .rename; same = refl; apart = c .apart });
+                    refused = λ p. absurd (not-refused (ended .taken) (ap (λ (m : FeedNumbers). m .answer) (d .answers)) p);
+                    spared = record { long = d .long; cells = c .cells; slots = subst (λ (k : ℕ). Agree state′ state (18432 + 6 * k) (18528 - (18432 + 6 * k))) (sym (c .count)) (c .slots) };
+                    errors-are = d .errors-are ys ∙ ap (λ (l : List ErrorRecord). written l ys) (held .errors);
+                  };
               few = d .few;
             })
           where
@@ -169,21 +156,18 @@ module _ (table : List ℕ) (view : View) (state work : List ℕ) (y : StagesRea
 module _ (table state work : List ℕ) (line : FeedLine state work) (x : Term) (q : Found) (says : q ≡ foundOf table state) where
   -- what the definition goes on with
   abbrev go : List ErrorRecord → Table → List Reading → FeedCall
-  go ys t rs =
-      if isNil rs then feedRefused (stateFor table state) ys Consumed
-      else if wrongTerm t x then feedRefused (stateFor table state) ys WrongArgument
-      else feedEnded ys (feed t x rs (usedOf state))
+  go ys t rs = feedRight t x rs ys (usedOf state)
 
   pub found-refused : (k : Refusal) (r : FeedRun) → q ≡ found.Refused k → r ≡ refusedRun k → RunLine table state (feedLine table state x) r state
-  unfolding feedLine feedCall
-  found-refused k r e g = rw g (line-refused table state (feedLine table state x) k (λ ys. sym (checked-refused table state q says (feedRefused (stateFor table state) ys) (go ys) k e)))
+  unfolding feedCall
+  found-refused k r e g = rw g (line-refused table state (feedLine table state x) k (λ ys. checked-refused table state q says (feedRefused (stateFor table state) ys) (go ys) k e))
 
   module _ (view : View) (e : q ≡ found.Right view) where
     pub right-ready : StagesReady table view state work
     right-ready = let k = right-for table state q says view e in record { belongs = k .belongs; valid = k .valid; state-long = line .state-long; work-long = line .work-long }
 
     pub found-right : (r : FeedRun) (state′ : List ℕ) → RunLine table state (feedIn table state x) r state′ → RunLine table state (feedLine table state x) r state′
-    unfolding feedLine feedCall feedIn
+    unfolding feedCall
     found-right r state′ = line-as table state (feedIn table state x) (feedLine table state x) r state′ (λ ys. checked-right table state view (right-for table state q says view e) (feedRefused (stateFor table state) ys) (go ys))
 
 -- Check 1, and the work area cleared at every answer but 1.
@@ -194,42 +178,15 @@ module _ (table state work : List ℕ) (x : Term) (places : ℕ) (b : Bool) (e :
       let both-are = both-left (lengthsRight state work) (eqb places 32) (sym e ∙ f) in
       record { state-long = state-long state work true (sym both-are) refl; work-long = work-long state work true (sym both-are) refl }
 
-  -- the definition's call for a list of so many places
-  call-is : (ys : List ErrorRecord) → length ys ≡ places → feedOn table state work x ys ≡ feedCall b table (stateFor table state) x ys (usedOf state)
-  call-is ys l = ap (λ (k : ℕ). feedCall (feedLengths state work k) table (stateFor table state) x ys (usedOf state)) l ∙ ap (λ (c : Bool). feedCall c table (stateFor table state) x ys (usedOf state)) (sym e)
+  -- the definition's call, by what the check has found
+  call-is : (c : Bool) → b ≡ c → (ys : List ErrorRecord) → feedCall c table (stateFor table state) x ys (usedOf state) ≡ feedFor table state work x places ys
+  call-is c f ys = ap (λ (d : Bool). feedCall d table (stateFor table state) x ys (usedOf state)) (sym f ∙ e)
 
   pub run-done : (r : FeedRun) (state′ work₁ work′ : List ℕ) → b ≡ true → RunLine table state (feedLine table state x) r state′ → length work₁ ≡ length work → work′ ≡ zeros (length work₁) → RunPromise table state work x places r state′ work′
-  unfolding workAfter feedLine
+  unfolding workAfter
   run-done r state′ work₁ work′ f y l₁ z =
-      record {
-        answers = λ ys l. y .answers ys ∙ sym (ap (λ (c : FeedCall). c .says) (is ys l));
-        readings = λ ys l. subst (λ (c : FeedCall). SameState (c .state) (stateFor table state′)) (sym (is ys l)) (y .readings ys);
-        refused = y .refused;
-        spared = y .spared;
-        errors-are = λ ys l. y .errors-are ys ∙ sym (ap (λ (c : FeedCall). c .errors) (is ys l));
-        few = y .few;
-        cleared = rw (← e, f) (z ∙ ap zeros l₁);
-      }
-    where
-      is : (ys : List ErrorRecord) → length ys ≡ places → feedOn table state work x ys ≡ feedCall true table (stateFor table state) x ys (usedOf state)
-      is ys l = call-is ys l ∙ ap (λ (c : Bool). feedCall c table (stateFor table state) x ys (usedOf state)) f
-
-  refused-for : b ≡ false → RunPromise table state work x places (refusedRun WrongLength) state work
-  unfolding workAfter feedCall
-  refused-for f =
-      let y = line-refused table state (λ ys. feedRefused (stateFor table state) ys WrongLength) WrongLength (λ ys. refl) in
-      record {
-        answers = λ ys l. y .answers ys ∙ sym (ap (λ (c : FeedCall). c .says) (is ys l));
-        readings = λ ys l. subst (λ (c : FeedCall). SameState (c .state) (stateFor table state)) (sym (is ys l)) (y .readings ys);
-        refused = y .refused;
-        spared = y .spared;
-        errors-are = λ ys l. y .errors-are ys ∙ sym (ap (λ (c : FeedCall). c .errors) (is ys l));
-        few = y .few;
-        cleared = rw (← e, f);
-      }
-    where
-      is : (ys : List ErrorRecord) → length ys ≡ places → feedOn table state work x ys ≡ feedRefused (stateFor table state) ys WrongLength
-      is ys l = call-is ys l ∙ ap (λ (c : Bool). feedCall c table (stateFor table state) x ys (usedOf state)) f
+      record { line = line-as table state (feedLine table state x) (feedFor table state work x places) r state′ (call-is true f) y; cleared = rw (← e, f) (z ∙ ap zeros l₁) }
 
   pub run-length : (r : FeedRun) → b ≡ false → r ≡ refusedRun WrongLength → RunPromise table state work x places r state work
-  run-length r f g = rw g (refused-for f)
+  unfolding workAfter feedCall
+  run-length r f g = rw g (record { line = line-refused table state (feedFor table state work x places) WrongLength (call-is false f); cleared = rw (← e, f) })

@@ -10,7 +10,7 @@ use lib.Seq.{sets, length-sets, sets-eq, take-at, getD-take, take-suc-set}
 use borrow.Author.Tests.{eqb-true, le-leb, lt-leb}
 use Rattle.meaning.specs.Answers.{stackNumbers}
 use Rattle.meaning.specs.Basics.{both, isNil}
-use Rattle.meaning.specs.Calls.{StackCall, stackCall, stackRefused, stackRead, noReading, written}
+use Rattle.meaning.specs.Calls.{StackCall, stackRight, stackCall, stackRefused, stackRead, noReading, written}
 use Rattle.meaning.specs.Readings.{seen}
 use Rattle.meaning.specs.declared.Entry.{Entry as SeenEntry}
 use Rattle.meaning.specs.declared.Refusal.{Refusal}
@@ -33,7 +33,7 @@ use Rattle.state.proofs.Valid.{waiting-list}
 use Rattle.checks.specs.Checks.{foundOf}
 use Rattle.promises.specs.Buffers.{listsRight}
 use Rattle.promises.specs.Calls.{stackOn, StackPromise}
-use Rattle.covered.specs.Reading.{cellsOf, ReadReady, EntriesRead, refusedRead, stackIn, RightState, ReadPromise}
+use Rattle.covered.specs.Reading.{cellsOf, ReadReady, EntriesRead, refusedRead, RightState, ReadPromise}
 use Rattle.checks.specs.declared.Found.{Found}
 use Rattle.checks.specs.declared.Found.the-variants as found
 use Rattle.covered.specs.declared.reading.StackRead.{StackRead}
@@ -165,26 +165,26 @@ module _ (call : List SeenEntry → StackCall) (r : StackRead) (k : Refusal) (e 
       rw e (record { answers = λ ys. ap (λ (s : StackCall). s .says) (f ys); entries = λ ys. ap (λ (s : StackCall). s .entries) (f ys); few = omega arith })
 
 module _ (state : List ℕ) (number count : ℕ) (e : count ≡ countOf state) where
-  pub stack-consumed : (r : StackRead) → r ≡ refusedRead Consumed → count ≡ 0 → ReadPromise (stackIn (readingsOf state) number) r
-  unfolding stackIn readingsFrom
-  stack-consumed r f z = refused-promise (stackIn (readingsOf state) number) r Consumed f (λ ys. rw (← e, z))
+  pub stack-consumed : (r : StackRead) → r ≡ refusedRead Consumed → count ≡ 0 → ReadPromise (stackRight (readingsOf state) number) r
+  unfolding stackRight readingsFrom
+  stack-consumed r f z = refused-promise (stackRight (readingsOf state) number) r Consumed f (λ ys. rw (← e, z))
 
   module _ (some : count ≡ 0 → ⊥) where
     not-nil : isNil (readingsOf state) ≡ false
     not-nil = some-readings state (countOf state) (λ z. some (e ∙ z))
 
-    pub stack-none : (r : StackRead) → r ≡ refusedRead WrongArgument → count ≤ number → ReadPromise (stackIn (readingsOf state) number) r
-    unfolding stackIn
+    pub stack-none : (r : StackRead) → r ≡ refusedRead WrongArgument → count ≤ number → ReadPromise (stackRight (readingsOf state) number) r
+    unfolding stackRight
     stack-none r f h =
-        refused-promise (stackIn (readingsOf state) number) r WrongArgument f
+        refused-promise (stackRight (readingsOf state) number) r WrongArgument f
         (λ ys. rw (not-nil, length-readings state readingsAt 0 (countOf state), le-leb (countOf state) number (omega arith)))
 
     module _ (y : RightState state) (h : number < count) where
       listed : ListIn state readingsAt number (count - number)
       listed = waiting-list (y .states) state (y .valid) (y .long) number (count - number) (omega arith)
 
-      stack-is : (ys : List SeenEntry) → stackIn (readingsOf state) number ys ≡ stackRead ys (readingAt state readingsAt number)
-      unfolding stackIn
+      stack-is : (ys : List SeenEntry) → stackRight (readingsOf state) number ys ≡ stackRead ys (readingAt state readingsAt number)
+      unfolding stackRight
       stack-is ys =
           let u : 0 + number ≡ number = omega arith in
           rw (not-nil, length-readings state readingsAt 0 (countOf state), lt-leb (countOf state) number (omega arith), reading-numbered state readingsAt 0 (countOf state) number noReading (omega arith), u)
@@ -210,7 +210,7 @@ module _ (state : List ℕ) (number count : ℕ) (e : count ≡ countOf state) w
           same-entries : (ys : List SeenEntry) → written (seenOf (cellAt state) (x .height) (slot .top .0)) ys ≡ stackRead ys (readingAt state readingsAt number) .entries
           same-entries ys = rw (g, f)
 
-          pub stack-done : (r : Entries) → EntriesRead (seenOf (cellAt state) (x .height) (slot .top .0)) r → ReadPromise (stackIn (readingsOf state) number) (record { answer = Read (x .height) (slot .mark); entries = r })
+          pub stack-done : (r : Entries) → EntriesRead (seenOf (cellAt state) (x .height) (slot .top .0)) r → ReadPromise (stackRight (readingsOf state) number) (record { answer = Read (x .height) (slot .mark); entries = r })
           stack-done r d =
               record {
                 answers = λ ys. same-numbers ys ∙ sym (ap (λ (s : StackCall). s .says) (stack-is ys));
@@ -221,19 +221,19 @@ module _ (state : List ℕ) (number count : ℕ) (e : count ≡ countOf state) w
 -- By what the checks find.
 module _ (table state : List ℕ) (number : ℕ) (q : Found) (says : q ≡ foundOf table state) where
   pub stack-refused : (k : Refusal) (r : StackRead) → q ≡ found.Refused k → r ≡ refusedRead k → ReadPromise (stackOn true table state number) r
-  unfolding stackCall stackIn
+  unfolding stackCall stackRight
   stack-refused k r e f =
-      refused-promise (stackOn true table state number) r k f (λ ys. checked-refused table state q says (stackRefused ys) (λ t rs. stackIn rs number ys) k e)
+      refused-promise (stackOn true table state number) r k f (λ ys. checked-refused table state q says (stackRefused ys) (λ t rs. stackRight rs number ys) k e)
 
   module _ (v : View) (e : q ≡ found.Right v) where
     pub right-state : length state ≡ stateLength → RightState state
     right-state l = record { states = v .counts .states; valid = right-for table state q says v e .valid; long = l }
 
-    pub stack-found : (r : StackRead) → ReadPromise (stackIn (readingsOf state) number) r → ReadPromise (stackOn true table state number) r
-    unfolding stackCall stackIn
+    pub stack-found : (r : StackRead) → ReadPromise (stackRight (readingsOf state) number) r → ReadPromise (stackOn true table state number) r
+    unfolding stackCall stackRight
     stack-found r p =
-        let same : (ys : List SeenEntry) → stackIn (readingsOf state) number ys ≡ stackOn true table state number ys =
-        λ ys. checked-right table state v (right-for table state q says v e) (stackRefused ys) (λ t rs. stackIn rs number ys) in
+        let same : (ys : List SeenEntry) → stackRight (readingsOf state) number ys ≡ stackOn true table state number ys =
+        λ ys. checked-right table state v (right-for table state q says v e) (stackRefused ys) (λ t rs. stackRight rs number ys) in
         record {
           answers = λ ys. p .answers ys ∙ ap (λ (s : StackCall). s .says) (same ys);
           entries = λ ys. p .entries ys ∙ ap (λ (s : StackCall). s .entries) (same ys);

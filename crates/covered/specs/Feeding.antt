@@ -3,20 +3,17 @@ use mathlib.Core.Path.{_≡_}
 use mathlib.Core.Bool.{Bool, true}
 use mathlib.Core.List.{List}
 use Prim.Native.Nat.{ℕ, _≤_}
-use lib.Dec.{ltb, leb}
 use lib.ListN.{length}
 use Rattle.meaning.specs.Answers.{done, notTaken, feedNumbers}
-use Rattle.meaning.specs.Basics.{if_then_else_, either, isNil}
+use Rattle.meaning.specs.Basics.{if_then_else_}
 use Rattle.meaning.specs.Bounds.{maxWalkedByFeed}
-use Rattle.meaning.specs.Calls.{FeedCall, feedRefused, feedEnded, feedCall, wrongTerm, written}
-use Rattle.meaning.specs.Feeding.{feed}
+use Rattle.meaning.specs.Calls.{FeedCall, feedRight, feedCall, written}
 use Rattle.meaning.specs.Limits.{maxErrors}
 use Rattle.meaning.specs.Outcome.{Fed}
-use Rattle.meaning.specs.TableFile.{tableOf, firstTerm}
+use Rattle.meaning.specs.TableFile.{tableOf}
 use Rattle.meaning.specs.declared.ErrorRecord.{ErrorRecord}
 use Rattle.meaning.specs.declared.FeedAnswer.the-variants.{Done, NotTaken, Refused}
 use Rattle.meaning.specs.declared.Refusal.{Refusal}
-use Rattle.meaning.specs.declared.Refusal.the-variants.{Consumed, WrongArgument}
 use Rattle.meaning.specs.declared.Term.{Term}
 use Rattle.meaning.specs.declared.View.{View}
 use Rattle.table.specs.Answers.{Belongs}
@@ -31,7 +28,7 @@ use Rattle.commit.specs.Committing.{Committed}
 use Rattle.feeding.specs.declared.Ended.{Ended}
 use Rattle.gathering.specs.Gathering.{noErrors}
 use Rattle.promises.specs.Buffers.{feedLengths, stateFor, workAfter}
-use Rattle.promises.specs.Calls.{SameState, Spared, feedOn}
+use Rattle.promises.specs.Calls.{FeedLeaves, feedFor}
 use Rattle.covered.specs.declared.running.FeedRun.{FeedRun}
 
 abbrev pub refusedRun : Refusal → FeedRun
@@ -39,10 +36,6 @@ refusedRun k = record { answer = Refused k; errors = noErrors }
 
 unfoldable pub runOf : (taken : Bool) → (walked : ℕ) → Errors → FeedRun
 runOf taken walked errors = record { answer = if taken then Done (errors .count) walked else NotTaken (errors .count) walked; errors = errors }
-
--- check 5, by the table's count of classes
-unfoldable pub wrongFor : (classes : ℕ) → Term → Bool
-wrongFor classes x = either (either (ltb (x .class) firstTerm) (leb classes (x .class))) (ltb (x .end) (x .start))
 
 -- buffers of the right lengths
 pub record FeedLine (state work : List ℕ) : Type 0 where
@@ -73,31 +66,18 @@ pub record EndedRun (f : Fed) (state : List ℕ) (r : FeedRun) (state′ : List 
   pub few : r .errors .count ≤ maxErrors
   pub long : length state′ ≡ length state
 
--- feed, of a table and a state that were found right: consumed before 5 is looked at
-unfoldable pub feedIn : (table state : List ℕ) → Term → List ErrorRecord → FeedCall
-feedIn table state x ys =
-    if isNil (readingsOf state) then feedRefused (stateFor table state) ys Consumed
-    else if wrongTerm (tableOf table) x then feedRefused (stateFor table state) ys WrongArgument
-    else feedEnded ys (feed (tableOf table) x (readingsOf state) (usedOf state))
+-- feed, on a table and a state that were found right, and on buffers of the right lengths
+abbrev pub feedIn : (table state : List ℕ) → Term → List ErrorRecord → FeedCall
+feedIn table state x ys = feedRight (tableOf table) x (readingsOf state) ys (usedOf state)
 
--- feed, on buffers of the right lengths
-unfoldable pub feedLine : (table state : List ℕ) → Term → List ErrorRecord → FeedCall
+abbrev pub feedLine : (table state : List ℕ) → Term → List ErrorRecord → FeedCall
 feedLine table state x ys = feedCall true table (stateFor table state) x ys (usedOf state)
 
--- What a call answers and leaves in the state, for whatever the lent list holds.
+-- What a call answers and leaves, for whatever the lent list holds.
 pub record RunLine (table state : List ℕ) (call : List ErrorRecord → FeedCall) (r : FeedRun) (state′ : List ℕ) : Type 0 where
-  pub answers : (ys : List ErrorRecord) → feedNumbers (r .answer) ≡ call ys .says
-  pub readings : (ys : List ErrorRecord) → SameState (call ys .state) (stateFor table state′)
-  pub refused : (1 ≤ feedNumbers (r .answer) .answer) × (feedNumbers (r .answer) .answer ≤ 11) → state′ ≡ state
-  pub spared : Spared state state′
-  pub errors-are : (ys : List ErrorRecord) → filled (r .errors .list) ys (r .errors .count) ≡ call ys .errors
+  pub leaves : (ys : List ErrorRecord) → FeedLeaves table state (call ys) (r .answer) state′ (filled (r .errors .list) ys (r .errors .count))
   pub few : r .errors .count ≤ maxErrors
 
 pub record RunPromise (table state work : List ℕ) (x : Term) (places : ℕ) (r : FeedRun) (state′ work′ : List ℕ) : Type 0 where
-  pub answers : (ys : List ErrorRecord) → length ys ≡ places → feedNumbers (r .answer) ≡ feedOn table state work x ys .says
-  pub readings : (ys : List ErrorRecord) → length ys ≡ places → SameState (feedOn table state work x ys .state) (stateFor table state′)
-  pub refused : (1 ≤ feedNumbers (r .answer) .answer) × (feedNumbers (r .answer) .answer ≤ 11) → state′ ≡ state
-  pub spared : Spared state state′
-  pub errors-are : (ys : List ErrorRecord) → length ys ≡ places → filled (r .errors .list) ys (r .errors .count) ≡ feedOn table state work x ys .errors
-  pub few : r .errors .count ≤ maxErrors
+  pub line : RunLine table state (feedFor table state work x places) r state′
   pub cleared : work′ ≡ workAfter (feedLengths state work places) work

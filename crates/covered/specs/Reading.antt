@@ -3,16 +3,12 @@ use mathlib.Core.Path.{_≡_}
 use mathlib.Core.Bool.{true}
 use mathlib.Core.List.{List, [], _∷_}
 use Prim.Native.Nat.{ℕ, zero, suc, _≤_}
-use lib.Dec.{leb}
-use lib.ListN.{length, getD, replicate}
+use lib.ListN.{length, replicate}
 use Rattle.meaning.specs.Answers.{stackNumbers}
-use Rattle.meaning.specs.Basics.{if_then_else_, isNil}
-use Rattle.meaning.specs.Calls.{StackCall, stackRefused, stackRead, noReading, written}
+use Rattle.meaning.specs.Calls.{StackCall, written}
 use Rattle.meaning.specs.Limits.{maxHeight}
-use Rattle.meaning.specs.Readings.{Reading}
 use Rattle.meaning.specs.declared.Entry.{Entry as SeenEntry}
 use Rattle.meaning.specs.declared.Refusal.{Refusal}
-use Rattle.meaning.specs.declared.Refusal.the-variants.{Consumed, WrongArgument}
 use Rattle.meaning.specs.declared.StackAnswer.the-variants.{Refused}
 use Rattle.cells.specs.Stacks.{Pool, StackIn}
 use Rattle.lists.specs.Filling.{noEntry, filled}
@@ -41,13 +37,6 @@ pub record EntriesRead (es : List SeenEntry) (r : Entries) : Type 0 where
 
 unfoldable pub refusedRead : Refusal → StackRead
 refusedRead k = record { answer = Refused k; entries = noEntries }
-
--- of readings that were found right
-unfoldable pub stackIn : List Reading → (i : ℕ) → List SeenEntry → StackCall
-stackIn rs i ys =
-    if isNil rs then stackRefused ys Consumed
-    else if leb (length rs) i then stackRefused ys WrongArgument
-    else stackRead ys (getD rs i noReading)
 
 pub record RightState (state : List ℕ) : Type 0 where
   pub states : ℕ

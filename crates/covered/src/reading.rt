@@ -5,6 +5,7 @@ ghost use mathlib.Core.List.{map};
 ghost use Prim.Native.Nat.{_+_, _≤_};
 ghost use lib.ListN.{length};
 ghost use lib.Seq.{sets};
+ghost use Rattle.meaning.specs.Calls.{stackRight};
 ghost use Rattle.meaning.specs.Readings.{seen};
 ghost use Rattle.cells.specs.Pool.{cellAt};
 ghost use Rattle.cells.specs.Stacks.{entriesOf, StackIn};
@@ -12,7 +13,7 @@ ghost use Rattle.state.specs.Layout.{stateLength};
 ghost use Rattle.state.specs.Readings.{readingsOf};
 ghost use Rattle.promises.specs.Buffers.{listsRight};
 ghost use Rattle.promises.specs.Calls.{stackOn};
-ghost use Rattle.covered.specs.Reading.{cellsOf, ReadReady, EntriesRead, refusedRead, stackIn, RightState, ReadPromise};
+ghost use Rattle.covered.specs.Reading.{cellsOf, ReadReady, EntriesRead, refusedRead, RightState, ReadPromise};
 use checks::Found;
 use checks::find;
 use lists::Entries;
@@ -92,7 +93,7 @@ fn entries_of(state: &[u8], height: u16, top: CellNo) -> Entries
 // The stack of a reading, of a state that was found right.
 fn stack_right(state: &[u8], number: u16) -> StackRead
     requires { ⌜ RightState (now state) ⌝ }
-    ensures { λ r. ⌜ ReadPromise (stackIn (readingsOf (now (state .entry))) number) r ⌝ }
+    ensures { λ r. ⌜ ReadPromise (stackRight (readingsOf (now (state .entry))) number) r ⌝ }
 {
     let count = state::reading_count(state);
     if count == 0 {

@@ -2,11 +2,12 @@
 ghost use mathlib.Core.Path.{_≡_};
 ghost use Prim.Native.Nat.{_≤_};
 ghost use Rattle.meaning.specs.Bounds.{maxWalkedByFeed};
+ghost use Rattle.meaning.specs.Calls.{wrongTerm};
 ghost use Rattle.meaning.specs.Feeding.{feed};
 ghost use Rattle.meaning.specs.TableFile.{tableOf};
 ghost use Rattle.state.specs.Readings.{usedOf, readingsOf};
 ghost use Rattle.feeding.specs.Ending.{FedIs};
-ghost use Rattle.covered.specs.Feeding.{FeedLine, StagesReady, EndsReady, EndedRun, RunLine, RunPromise, refusedRun, runOf, wrongFor, fedIn, feedIn, feedLine};
+ghost use Rattle.covered.specs.Feeding.{FeedLine, StagesReady, EndsReady, EndedRun, RunLine, RunPromise, refusedRun, runOf, fedIn, feedIn, feedLine};
 use checks::Found;
 use checks::feed_lengths_right;
 use checks::find;
@@ -14,12 +15,11 @@ use feeding::Ended;
 use feeding::Fed;
 use feeding::First;
 use lists::Errors;
+use meaning::FIRST_TERM;
 use meaning::FeedAnswer;
 use meaning::Refusal;
 use meaning::Term;
 use meaning::View;
-
-const FIRST_TERM: u16 = 3;
 
 // What a feed answers, and the error records for the lent list.
 pub struct FeedRun {
@@ -64,7 +64,7 @@ fn answered(taken: bool, walked: usize, errors: Errors) -> FeedRun
 
 // Check 5: class below 3 or not in the table, or start > end.
 fn wrong_term(view: View, term: Term) -> bool
-    ensures { λ r. ⌜ r ≡ wrongFor (view .counts .classes) term ⌝ }
+    ensures { λ r. ⌜ r ≡ wrongTerm (view .counts .classes) term ⌝ }
 {
     if term.class < FIRST_TERM {
         return true;

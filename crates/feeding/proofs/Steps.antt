@@ -94,10 +94,6 @@ module _ (s : List ℕ) (view : View) (state w : List ℕ) (i : ℕ) (so : SoFar
           belongs = y .belongs;
           area = y .stands .area;
           stands = stands-here;
-          cells = usedOf state;
-          errors = 0;
-          few-cells = omega arith;
-          few-errors = omega arith;
-          paced = y .stands .paced;
+          roomy = record { cells = usedOf state; errors = 0; few-cells = omega arith; few-errors = omega arith; paced = y .stands .paced };
           walked = omega arith;
         }

@@ -9,7 +9,7 @@ use lib.Seq.{length-take-le}
 use borrow.Rule.Slice.PartMut.{midOf, putMid, same-len-mid}
 use borrow.Author.Tests.{lt-ltb, le-ltb, le-leb, lt-leb}
 use Rattle.meaning.specs.Basics.{isNil}
-use Rattle.meaning.specs.Calls.{takesCall, canEndCall, canRecoverCall}
+use Rattle.meaning.specs.Calls.{wrongClass, takesRight, takesCall, canEndCall, canRecoverCall}
 use Rattle.meaning.specs.Questions.{takes, canEnd, canRecover}
 use Rattle.meaning.specs.TableFile.{tableOf}
 use Rattle.meaning.specs.declared.QuestionAnswer.{QuestionAnswer}
@@ -25,7 +25,7 @@ use Rattle.promises.specs.Buffers.{lengthsRight, stateFor}
 use Rattle.checks.specs.Checks.{foundOf}
 use Rattle.promises.specs.Buffers.{workAfter}
 use Rattle.promises.specs.Calls.{QuestionPromise}
-use Rattle.machine.specs.Lines.{AsksLine, takesIn}
+use Rattle.machine.specs.Lines.{AsksLine}
 use Rattle.checks.specs.declared.Found.{Found}
 use Rattle.checks.specs.declared.Found.the-variants as found
 use Rattle.checks.proofs.Checks.{some-readings, state-long, work-long, RightFor, right-for, checked-refused, checked-right}
@@ -36,33 +36,33 @@ module _ (table : List ℕ) (v : View) (state marks : List ℕ) (class n : ℕ) 
   unfolding tableOf
   classes-are = ap (λ (w : View). w .counts .classes) (y .belongs .is)
 
-  pub takes-consumed : n ≡ 0 → No ≡ takesIn (tableOf table) class (readingsOf state)
-  unfolding takesIn readingsFrom
+  pub takes-consumed : n ≡ 0 → No ≡ takesRight (tableOf table) class (readingsOf state)
+  unfolding takesRight readingsFrom
   takes-consumed z = rw (← e, z)
 
   module _ (some : n ≡ 0 → ⊥) where
     not-nil : isNil (readingsOf state) ≡ false
     not-nil = some-readings state (countOf state) (λ z. some (e ∙ z))
 
-    pub takes-low : class < 3 → Refused WrongArgument ≡ takesIn (tableOf table) class (readingsOf state)
-    unfolding takesIn
+    pub takes-low : class < 3 → Refused WrongArgument ≡ takesRight (tableOf table) class (readingsOf state)
+    unfolding takesRight wrongClass
     takes-low l = rw (not-nil, lt-ltb class 3 l)
 
     module _ (h : 3 ≤ class) where
-      pub takes-high : v .counts .classes ≤ class → Refused WrongArgument ≡ takesIn (tableOf table) class (readingsOf state)
-      unfolding takesIn
+      pub takes-high : v .counts .classes ≤ class → Refused WrongArgument ≡ takesRight (tableOf table) class (readingsOf state)
+      unfolding takesRight wrongClass
       takes-high l = rw (not-nil, le-ltb class 3 h, le-leb (tableOf table .counts .classes) class (rw classes-are at l))
 
-      pub takes-asked : class < v .counts .classes → takes (tableOf table) class (readingsOf state) ≡ takesIn (tableOf table) class (readingsOf state)
-      unfolding takesIn
+      pub takes-asked : class < v .counts .classes → takes (tableOf table) class (readingsOf state) ≡ takesRight (tableOf table) class (readingsOf state)
+      unfolding takesRight wrongClass
       takes-asked l = rw (not-nil, le-ltb class 3 h, lt-leb (tableOf table .counts .classes) class (rw classes-are at l))
 
 -- Each question, by what the checks find.
 module _ (table state marks : List ℕ) (y : AsksLine state marks) (q : Found) (says : q ≡ foundOf table state) where
   module _ (k : Refusal) (e : q ≡ found.Refused k) where
     pub takes-refused : (class : ℕ) → Refused k ≡ takesCall true table (stateFor table state) class
-    unfolding takesCall takesIn
-    takes-refused class = checked-refused table state q says Refused (λ t rs. takesIn t class rs) k e
+    unfolding takesCall
+    takes-refused class = checked-refused table state q says Refused (λ t rs. takesRight t class rs) k e
 
     pub end-refused : Refused k ≡ canEndCall true table (stateFor table state)
     unfolding canEndCall
@@ -79,17 +79,17 @@ module _ (table state marks : List ℕ) (y : AsksLine state marks) (q : Found) (
     pub asks-state : AsksState table v state marks
     asks-state = record { belongs = right .belongs; state-long = y .state-long; valid = right .valid; long = y .long }
 
-    pub takes-right : (class : ℕ) → takesIn (tableOf table) class (readingsOf state) ≡ takesCall true table (stateFor table state) class
-    unfolding takesCall takesIn
-    takes-right class = checked-right table state v right Refused (λ t rs. takesIn t class rs)
+    pub takes-right : (class : ℕ) (r : QuestionAnswer) → r ≡ takesRight (tableOf table) class (readingsOf state) → r ≡ takesCall true table (stateFor table state) class
+    unfolding takesCall
+    takes-right class r f = f ∙ checked-right table state v right Refused (λ t rs. takesRight t class rs)
 
-    pub end-right : canEnd (tableOf table) (readingsOf state) ≡ canEndCall true table (stateFor table state)
+    pub end-right : (r : QuestionAnswer) → r ≡ canEnd (tableOf table) (readingsOf state) → r ≡ canEndCall true table (stateFor table state)
     unfolding canEndCall
-    end-right = checked-right table state v right Refused canEnd
+    end-right r f = f ∙ checked-right table state v right Refused canEnd
 
-    pub recover-right : canRecover (tableOf table) (readingsOf state) ≡ canRecoverCall true table (stateFor table state)
+    pub recover-right : (r : QuestionAnswer) → r ≡ canRecover (tableOf table) (readingsOf state) → r ≡ canRecoverCall true table (stateFor table state)
     unfolding canRecoverCall
-    recover-right = checked-right table state v right Refused canRecover
+    recover-right r f = f ∙ checked-right table state v right Refused canRecover
 
 -- The public questions.
 module _ (call : Bool → QuestionAnswer) (state work : List ℕ) (b : Bool) (e : b ≡ lengthsRight state work) where

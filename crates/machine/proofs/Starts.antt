@@ -56,10 +56,10 @@ module _ (table state work : List ℕ) (b : Bool) (e : b ≡ lengthsRight state 
   unfolding startCall workAfter
   start-length f =
       let no = sym e ∙ f in
-      record { answers = rw no; readings = rw no; refused = λ _. refl; started = λ z. absurd (omega arith); cleared = rw no }
+      record { leaves = record { answers = rw no; readings = rw no; refused = λ _. refl; started = λ z. absurd (omega arith) }; cleared = rw no }
 
   pub start-done : (r : StartAnswer) (state′ work′ : List ℕ) → b ≡ true → StartLine table state r state′ → work′ ≡ zeros (length work) → StartPromise table state work r state′ work′
   unfolding workAfter
   start-done r state′ work′ f l w =
       let yes = sym e ∙ f in
-      record { answers = rw yes (l .answers); readings = rw yes (l .readings); refused = l .refused; started = l .started; cleared = rw yes w }
+      record { leaves = rw yes l; cleared = rw yes w }

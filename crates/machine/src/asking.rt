@@ -1,19 +1,18 @@
 // The questions on buffers of the right lengths, over the marks' part of the work area. Private: only `Machine` calls them, and it has looked at the lengths.
 ghost use mathlib.Core.Path.{_≡_};
 ghost use mathlib.Core.Bool.{true};
-ghost use Rattle.meaning.specs.Calls.{takesCall, canEndCall, canRecoverCall};
+ghost use Rattle.meaning.specs.Calls.{takesRight, takesCall, canEndCall, canRecoverCall};
 ghost use Rattle.meaning.specs.TableFile.{tableOf};
 ghost use Rattle.state.specs.Readings.{readingsOf};
 ghost use Rattle.questions.specs.Asking.{AsksState};
 ghost use Rattle.promises.specs.Buffers.{stateFor};
-ghost use Rattle.machine.specs.Lines.{AsksLine, takesIn};
+ghost use Rattle.machine.specs.Lines.{AsksLine};
 use checks::Found;
 use checks::find;
+use meaning::FIRST_TERM;
 use meaning::QuestionAnswer;
 use meaning::Refusal;
 use meaning::View;
-
-const FIRST_TERM: u16 = 3;
 
 // Consumed is no, before the class is looked at.
 fn takes_right(
@@ -24,7 +23,7 @@ fn takes_right(
     marks: &mut [u8],
 ) -> QuestionAnswer
     requires { ⌜ AsksState (now table) view (now state) (now marks) ⌝ }
-    ensures { λ r. ⌜ r ≡ takesIn (tableOf (now (table .entry))) class (readingsOf (now (state .entry))) ⌝ }
+    ensures { λ r. ⌜ r ≡ takesRight (tableOf (now (table .entry))) class (readingsOf (now (state .entry))) ⌝ }
 {
     if state::reading_count(state) == 0 {
         return QuestionAnswer::No;

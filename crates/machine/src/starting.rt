@@ -4,11 +4,10 @@ ghost use lib.ListN.{length};
 ghost use Rattle.state.specs.Layout.{stateLength};
 ghost use Rattle.machine.specs.Lines.{StartLine};
 use meaning::Refusal;
+use meaning::START_CLASS;
 use meaning::StartAnswer;
 use meaning::StateNo;
 use table::Checked;
-
-const START_CLASS: u16 = 2;
 
 pub fn start_line(table: &[u8], state: &mut [u8]) -> StartAnswer
     requires { ⌜ length (now state) ≡ stateLength ⌝ }

@@ -13,7 +13,7 @@ use Rattle.meaning.specs.Walk.{endChain, reduction, walkRules, walkState
 use Rattle.meaning.specs.Applying.{actOn, spanStart, reduced, shifted, refusedAction, unplanned, apply}
 use Rattle.meaning.specs.Recovery.{errorTerm, isHeld, recoverOne, recoverAll, longerTop, stays, takeTerm, recover}
 use Rattle.meaning.specs.Feeding.{planAll, applyAll, settle, first, feed}
-use Rattle.meaning.specs.Calls.{startCall, wrongTerm, feedCall}
+use Rattle.meaning.specs.Calls.{startCall, wrongClass, wrongTerm, feedRight, feedCall}
 use Rattle.meaning.specs.KnownRuns.{Run, feedAll, outcome, knownRuns}
 use Rattle.meaning.specs.KnownTables.{t1, t2, t4}
 
@@ -22,5 +22,5 @@ unfolding find u16At u32At fieldAt countsOf viewOf places ruleAt rulesFrom shift
 accepted = refl
 
 pub known : map outcome knownRuns ≡ map (λ (r : Run). r .leaves) knownRuns
-unfolding find u16At u32At fieldAt countsOf viewOf places ruleAt rulesFrom shiftTo numbers actionAt gotoAt actionsOf gotosOf tableOf actionOf gotoOf ruleOf startState countsRight frontRight middleRight backRight shapeRight frameRight picks kindRight ruleRight rulesBelow actionRight gotoRight actionFormat gotoFormat keyOf ascends recordsRight fieldRight contentRight tableOk act holds heldBy startReading recordAt endChain reduction walkRules walkState walkFrom plan ends actOn spanStart reduced shifted refusedAction unplanned apply errorTerm isHeld recoverOne recoverAll longerTop stays takeTerm recover planAll applyAll settle first feed startCall wrongTerm feedCall feedAll outcome knownRuns
+unfolding find u16At u32At fieldAt countsOf viewOf places ruleAt rulesFrom shiftTo numbers actionAt gotoAt actionsOf gotosOf tableOf actionOf gotoOf ruleOf startState countsRight frontRight middleRight backRight shapeRight frameRight picks kindRight ruleRight rulesBelow actionRight gotoRight actionFormat gotoFormat keyOf ascends recordsRight fieldRight contentRight tableOk act holds heldBy startReading recordAt endChain reduction walkRules walkState walkFrom plan ends actOn spanStart reduced shifted refusedAction unplanned apply errorTerm isHeld recoverOne recoverAll longerTop stays takeTerm recover planAll applyAll settle first feed startCall wrongClass wrongTerm feedRight feedCall feedAll outcome knownRuns
 known = refl

@@ -53,10 +53,15 @@ startCall lengths table state next =
     else if not (tableOk table) then record { answer = number WrongTable; state = state }
     else record { answer = done; state = just (startReading (tableOf table) next ∷ []) }
 
--- Feed. Class below 3 or not in the table, or start > end, is 5.
+-- Check 5 of a class: below 3 or not in the table,
+unfoldable pub wrongClass : (classes class : ℕ) → Bool
+wrongClass classes class = either (ltb class firstTerm) (leb classes class)
 
-unfoldable pub wrongTerm : Table → Term → Bool
-wrongTerm t x = either (either (ltb (x .class) firstTerm) (leb (t .counts .classes) (x .class))) (ltb (x .end) (x .start))
+-- of a term also start > end.
+unfoldable pub wrongTerm : (classes : ℕ) → Term → Bool
+wrongTerm classes x = either (wrongClass classes (x .class)) (ltb (x .end) (x .start))
+
+-- Feed.
 
 pub record FeedCall : Type 0 where
   pub says : FeedNumbers
@@ -69,21 +74,26 @@ feedRefused state errors k = record { says = record { answer = number k; errors 
 abbrev pub feedEnded : List ErrorRecord → Fed → FeedCall
 feedEnded errors f = record { says = record { answer = f .answer; errors = length (f .errors); walked = f .walked }; state = just (f .readings); errors = written (f .errors) errors }
 
-unfoldable pub feedCall : (lengths : Bool) → (table : List ℕ) → State → Term → List ErrorRecord → (next : ℕ) → FeedCall
-feedCall lengths table state x errors next =
-    checked lengths table state (feedRefused state errors) λ t rs.
-    if isNil rs then feedRefused state errors Consumed
-    else if wrongTerm t x then feedRefused state errors WrongArgument
+-- On a right table and a right state: consumed is 4, before 5 is looked at.
+unfoldable pub feedRight : Table → Term → List Reading → List ErrorRecord → (next : ℕ) → FeedCall
+feedRight t x rs errors next =
+    if isNil rs then feedRefused (just rs) errors Consumed
+    else if wrongTerm (t .counts .classes) x then feedRefused (just rs) errors WrongArgument
     else feedEnded errors (feed t x rs next)
+
+unfoldable pub feedCall : (lengths : Bool) → (table : List ℕ) → State → Term → List ErrorRecord → (next : ℕ) → FeedCall
+feedCall lengths table state x errors next = checked lengths table state (feedRefused state errors) λ t rs. feedRight t x rs errors next
 
 -- The questions. Consumed is no, before 5 is looked at.
 
-unfoldable pub takesCall : (lengths : Bool) → (table : List ℕ) → State → (class : ℕ) → QuestionAnswer
-takesCall lengths table state class =
-    checked lengths table state Refused λ t rs.
+unfoldable pub takesRight : Table → (class : ℕ) → List Reading → QuestionAnswer
+takesRight t class rs =
     if isNil rs then No
-    else if either (ltb class firstTerm) (leb (t .counts .classes) class) then Refused WrongArgument
+    else if wrongClass (t .counts .classes) class then Refused WrongArgument
     else takes t class rs
+
+unfoldable pub takesCall : (lengths : Bool) → (table : List ℕ) → State → (class : ℕ) → QuestionAnswer
+takesCall lengths table state class = checked lengths table state Refused λ t rs. takesRight t class rs
 
 unfoldable pub canEndCall : (lengths : Bool) → (table : List ℕ) → State → QuestionAnswer
 canEndCall lengths table state = checked lengths table state Refused λ t rs. canEnd t rs
@@ -106,9 +116,11 @@ stackRefused entries k = record { says = record { answer = number k; height = 0;
 abbrev pub stackRead : List SeenEntry → Reading → StackCall
 stackRead entries r = record { says = record { answer = done; height = length (r .stack); mark = r .mark }; entries = written (map seen (r .stack)) entries }
 
-unfoldable pub stackCall : (lengths : Bool) → (table : List ℕ) → State → (i : ℕ) → List SeenEntry → StackCall
-stackCall lengths table state i entries =
-    checked lengths table state (stackRefused entries) λ t rs.
+unfoldable pub stackRight : List Reading → (i : ℕ) → List SeenEntry → StackCall
+stackRight rs i entries =
     if isNil rs then stackRefused entries Consumed
     else if leb (length rs) i then stackRefused entries WrongArgument
     else stackRead entries (getD rs i noReading)
+
+unfoldable pub stackCall : (lengths : Bool) → (table : List ℕ) → State → (i : ℕ) → List SeenEntry → StackCall
+stackCall lengths table state i entries = checked lengths table state (stackRefused entries) λ t rs. stackRight rs i entries

@@ -5,6 +5,7 @@ use mathlib.Core.List.{List, [], _∷_, map, reverse}
 use Rattle.meaning.specs.Basics.{nothing, just}
 use Rattle.meaning.specs.Readings.{Reading, seen}
 use Rattle.meaning.specs.TableFile.{stateNo}
+use Rattle.meaning.specs.Bounds.{maxBirths}
 use Rattle.meaning.specs.Calls.{State, StartCall, startCall, FeedCall, feedCall}
 use Rattle.meaning.specs.KnownTables.{t1, t2, t4}
 use Rattle.meaning.specs.declared.Entry.{Entry as SeenEntry}
@@ -41,17 +42,17 @@ started c = record { says = record { answer = c .answer; errors = 0; walked = 0 
 abbrev pub fed : FeedCall → Outcome
 fed c = record { says = c .says; readings = seenState (c .state); errors = c .errors }
 
--- the terms one after the other; every feed gets identities of its own, a thousand for each
+-- the terms one after the other; the start entry has the identity 0, and every feed gets as many of its own as it may need
 unfoldable pub feedAll : (table : List ℕ) → State → List Term → (next : ℕ) → Outcome → Outcome
 feedAll table state [] next last = last
 feedAll table state (x ∷ more) next last =
     let c = feedCall true table state x [] next in
-    feedAll table (c .state) more (next + 1000) (fed c)
+    feedAll table (c .state) more (next + maxBirths) (fed c)
 
 unfoldable pub outcome : Run → Outcome
 outcome r =
     let c = startCall true (r .table) nothing 0 in
-    feedAll (r .table) (c .state) (r .terms) 1000 (started c)
+    feedAll (r .table) (c .state) (r .terms) 1 (started c)
 
 -- How they are written down.
 

@@ -7,6 +7,15 @@ pub struct CellNo(pub u16);
 
 pub struct StateNo(pub u16);
 
+// The classes that are no terms, and the first that is one.
+pub const END_CLASS: u16 = 0;
+
+pub const ERROR_CLASS: u16 = 1;
+
+pub const START_CLASS: u16 = 2;
+
+pub const FIRST_TERM: u16 = 3;
+
 // What is fed: a class, a value and a span.
 pub struct Term {
     pub class: u16,

@@ -9,7 +9,7 @@ use lib.Dec.{leb, ltb}
 use lib.ListN.{length, getD}
 use Rattle.meaning.specs.Answers.{number, questionNumbers}
 use Rattle.meaning.specs.Basics.{if_then_else_, either, isNil, just, AllOf}
-use Rattle.meaning.specs.Calls.{State, checked, takesCall, canEndCall, canRecoverCall, StackCall, noReading, stackRefused, stackRead, stackCall}
+use Rattle.meaning.specs.Calls.{State, checked, wrongClass, takesRight, takesCall, canEndCall, canRecoverCall, StackCall, noReading, stackRefused, stackRead, stackRight, stackCall}
 use Rattle.meaning.specs.Questions.{takes, canEnd, canRecover}
 use Rattle.meaning.specs.Readings.{Reading}
 use Rattle.meaning.specs.TableFile.{Table, tableOf}
@@ -72,10 +72,10 @@ only-number (Refused k) h = let a = h .0 in (inr (omega arith), h .1)
 
 module _ (lengths : Bool) (table : List ℕ) (state : State) where
   pub takes-asked : (class : ℕ) → Asked lengths state (questionNumbers (takesCall lengths table state class) .answer)
-  unfolding takesCall
+  unfolding takesCall takesRight
   takes-asked class =
-      asked lengths table state (λ t rs. go (isNil rs) (either (ltb class 3) (leb (t .counts .classes) class)) t rs)
-      (λ t rs. at (isNil rs) (either (ltb class 3) (leb (t .counts .classes) class)) t rs)
+      asked lengths table state (λ t rs. go (isNil rs) (wrongClass (t .counts .classes) class) t rs)
+      (λ t rs. at (isNil rs) (wrongClass (t .counts .classes) class) t rs)
     where
       go : Bool → Bool → Table → List Reading → QuestionAnswer
       go b d t rs = (if b then No else if d then Refused WrongArgument else takes t class rs)
@@ -122,11 +122,11 @@ module _ (lengths : Bool) (table : List ℕ) (state : State) (i : ℕ) (entries 
       at false false = inl refl
 
   pub stack-tells : Tells lengths state (stackCall lengths table state i entries .says .answer)
-  unfolding stackCall
+  unfolding stackCall stackRight
   stack-tells = tells lengths table state (stackRefused entries) reads (λ (c : StackCall). c .says .answer) (λ k. refl) reads-later
 
   pub stack-case : StackStopped ⊎ StackWent
-  unfolding stackCall
+  unfolding stackCall stackRight
   stack-case = at (checks lengths table state (stackRefused entries) reads)
     where
       past : (p : Passed lengths table state (stackRefused entries) reads) (b : Bool) → isNil (p .found) ≡ b → (d : Bool) → leb (length (p .found)) i ≡ d → StackStopped ⊎ StackWent

@@ -7,7 +7,7 @@ use mathlib.Core.List.{List, [], _∷_}
 use mathlib.Core.Logic.{_⊎_, inl, inr}
 use Rattle.meaning.specs.Answers.{done, number}
 use Rattle.meaning.specs.Basics.{if_then_else_, nothing, just, isNil}
-use Rattle.meaning.specs.Calls.{State, checkState, checked, StartCall, startCall, wrongTerm, FeedCall, feedRefused, feedEnded, feedCall}
+use Rattle.meaning.specs.Calls.{State, checkState, checked, StartCall, startCall, wrongTerm, FeedCall, feedRefused, feedEnded, feedRight, feedCall}
 use Rattle.meaning.specs.Feeding.{feed}
 use Rattle.meaning.specs.Readings.{Reading, startReading}
 use Rattle.meaning.specs.TableFile.{Table, tableOf}
@@ -144,18 +144,18 @@ module _ (lengths : Bool) (table : List ℕ) (state : State) (x : Term) (errors 
     pub right-table : tableOk table ≡ true
     pub state-is : state ≡ just found
     pub some : isNil found ≡ false
-    pub right-term : wrongTerm (tableOf table) x ≡ false
+    pub right-term : wrongTerm (tableOf table .counts .classes) x ≡ false
     pub is : feedCall lengths table state x errors next ≡ feedEnded errors (feed (tableOf table) x found next)
 
   -- what a feed does once the checks are passed, by two tests
   abbrev pub goes-by : Bool → Bool → Table → List Reading → FeedCall
-  goes-by b d t rs = (if b then feedRefused state errors Consumed else if d then feedRefused state errors WrongArgument else feedEnded errors (feed t x rs next))
+  goes-by b d t rs = (if b then feedRefused (just rs) errors Consumed else if d then feedRefused (just rs) errors WrongArgument else feedEnded errors (feed t x rs next))
 
   abbrev pub goes : Table → List Reading → FeedCall
-  goes t rs = goes-by (isNil rs) (wrongTerm t x) t rs
+  goes t rs = goes-by (isNil rs) (wrongTerm (t .counts .classes) x) t rs
 
   goes-later : (t : Table) (rs : List Reading) → Later (goes t rs .says .answer)
-  goes-later t rs = at (isNil rs) (wrongTerm t x) (feed-ranged t x rs next .0)
+  goes-later t rs = at (isNil rs) (wrongTerm (t .counts .classes) x) (feed-ranged t x rs next .0)
     where
       later : (n : ℕ) → (n ≡ 0) ⊎ (6 ≤ n) → Later n
       later n (inl e) = inl e
@@ -167,16 +167,20 @@ module _ (lengths : Bool) (table : List ℕ) (state : State) (x : Term) (errors 
       at false false h = later (feed t x rs next .answer) h
 
   pub feed-tells : Tells lengths state (feedCall lengths table state x errors next .says .answer)
-  unfolding feedCall
+  unfolding feedCall feedRight
   feed-tells = tells lengths table state (feedRefused state errors) goes (λ (c : FeedCall). c .says .answer) (λ k. refl) goes-later
 
   pub feed-case : FeedStopped ⊎ FeedWent
-  unfolding feedCall
+  unfolding feedCall feedRight
   feed-case = at (checks lengths table state (feedRefused state errors) goes)
     where
-      past : (p : Passed lengths table state (feedRefused state errors) goes) (b : Bool) → isNil (p .found) ≡ b → (d : Bool) → wrongTerm (tableOf table) x ≡ d → FeedStopped ⊎ FeedWent
-      past p true e d f = inl (record { by = Consumed; is = p .is ∙ ap (λ (c : Bool). goes-by c (wrongTerm (tableOf table) x) (tableOf table) (p .found)) e; few = omega arith })
-      past p false e true f = inl (record { by = WrongArgument; is = p .is ∙ ap₂ {C = FeedCall} (λ c h. goes-by c h (tableOf table) (p .found)) e f; few = omega arith })
+      kept : (p : Passed lengths table state (feedRefused state errors) goes) (k : Refusal) → feedRefused (just (p .found)) errors k ≡ feedRefused state errors k
+      kept p k = ap (λ (s : State). feedRefused s errors k) (sym (p .state-is))
+
+      past : (p : Passed lengths table state (feedRefused state errors) goes) (b : Bool) → isNil (p .found) ≡ b → (d : Bool) → wrongTerm (tableOf table .counts .classes) x ≡ d → FeedStopped ⊎ FeedWent
+      past p true e d f =
+          inl (record { by = Consumed; is = p .is ∙ ap (λ (c : Bool). goes-by c (wrongTerm (tableOf table .counts .classes) x) (tableOf table) (p .found)) e ∙ kept p Consumed; few = omega arith })
+      past p false e true f = inl (record { by = WrongArgument; is = p .is ∙ ap₂ {C = FeedCall} (λ c h. goes-by c h (tableOf table) (p .found)) e f ∙ kept p WrongArgument; few = omega arith })
       past p false e false f =
           inr (record {
             found = p .found;
@@ -190,11 +194,11 @@ module _ (lengths : Bool) (table : List ℕ) (state : State) (x : Term) (errors 
 
       at : Stopped lengths table state (feedRefused state errors) goes ⊎ Passed lengths table state (feedRefused state errors) goes → FeedStopped ⊎ FeedWent
       at (inl s) = let f = s .few in inl (record { by = s .by; is = s .is; few = omega arith })
-      at (inr p) = past p (isNil (p .found)) refl (wrongTerm (tableOf table) x) refl
+      at (inr p) = past p (isNil (p .found)) refl (wrongTerm (tableOf table .counts .classes) x) refl
 
   -- where all is right, it is fed
-  pub feed-goes : lengths ≡ true → tableOk table ≡ true → (rs : List Reading) → state ≡ just rs → isNil rs ≡ false → wrongTerm (tableOf table) x ≡ false → FeedWent
-  unfolding feedCall
+  pub feed-goes : lengths ≡ true → tableOk table ≡ true → (rs : List Reading) → state ≡ just rs → isNil rs ≡ false → wrongTerm (tableOf table .counts .classes) x ≡ false → FeedWent
+  unfolding feedCall feedRight
   feed-goes a b rs c d e = record { found = rs; right-lengths = a; right-table = b; state-is = c; some = d; right-term = e; is = fed }
     where
       fed : feedCall lengths table state x errors next ≡ feedEnded errors (feed (tableOf table) x rs next)

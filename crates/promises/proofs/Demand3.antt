@@ -59,14 +59,14 @@ module _ (table state work : List ℕ) (x : Term) (errors : List ErrorRecord) (r
       f = feed (tableOf table) x (w .found) (usedOf state)
 
       says : feedNumbers r ≡ record { answer = f .answer; errors = length (f .errors); walked = f .walked }
-      says = a .answers ∙ ap (λ (c : FeedCall). c .says) (w .is)
+      says = a .leaves .answers ∙ ap (λ (c : FeedCall). c .says) (w .is)
 
       told : Came f (fedBy r state′ errors′)
       told = record {
         answer = ap (λ (m : FeedNumbers). m .answer) says;
         walked = ap (λ (m : FeedNumbers). m .walked) says;
-        errors = ap (λ (m : FeedNumbers). take (m .errors) errors′) says ∙ ap (take (length (f .errors))) (a .errors-are ∙ ap (λ (c : FeedCall). c .errors) (w .is)) ∙ take-append-seam (f .errors) (drop (length (f .errors)) errors);
-        readings = same-readings table state′ (f .readings) (feedOn table state work x errors .state) (ap (λ (c : FeedCall). c .state) (w .is)) (a .readings);
+        errors = ap (λ (m : FeedNumbers). take (m .errors) errors′) says ∙ ap (take (length (f .errors))) (a .leaves .errors-are ∙ ap (λ (c : FeedCall). c .errors) (w .is)) ∙ take-append-seam (f .errors) (drop (length (f .errors)) errors);
+        readings = same-readings table state′ (f .readings) (feedOn table state work x errors .state) (ap (λ (c : FeedCall). c .state) (w .is)) (a .leaves .readings);
       }
 
   -- not refused, so it went
@@ -75,19 +75,19 @@ module _ (table state work : List ℕ) (x : Term) (errors : List ErrorRecord) (r
     where
       at : FeedStopped (feedLengths state work (length errors)) table (stateFor table state) x errors (usedOf state) ⊎ Went → Went
       at (inl s) =
-          let e : feedNumbers r .answer ≡ number (s .by) = ap (λ (m : FeedNumbers). m .answer) (a .answers ∙ ap (λ (c : FeedCall). c .says) (s .is)) in
+          let e : feedNumbers r .answer ≡ number (s .by) = ap (λ (m : FeedNumbers). m .answer) (a .leaves .answers ∙ ap (λ (c : FeedCall). c .says) (s .is)) in
           absurd (h (subst Refusing (sym e) (number-range (s .by))))
       at (inr w) = w
 
   -- past the checks, with a right table and term and some reading: it went
-  pub went-too : PassedCheck (feedNumbers r .answer) → tableOk table ≡ true → wrongTerm (tableOf table) x ≡ false → isNil (readingsOf state) ≡ false → Went
+  pub went-too : PassedCheck (feedNumbers r .answer) → tableOk table ≡ true → wrongTerm (tableOf table .counts .classes) x ≡ false → isNil (readingsOf state) ≡ false → Went
   went-too p b e d =
       feed-goes (feedLengths state work (length errors)) table (stateFor table state) x errors (usedOf state) (lengths (feedLengths state work (length errors)) refl) b (readingsOf state)
       (fits-found table state (some-fits table state (told .passed p))) d e
     where
       told : Tells (feedLengths state work (length errors)) (stateFor table state) (feedNumbers r .answer)
       told =
-          subst (λ (m : FeedNumbers). Tells (feedLengths state work (length errors)) (stateFor table state) (m .answer)) (sym (a .answers))
+          subst (λ (m : FeedNumbers). Tells (feedLengths state work (length errors)) (stateFor table state) (m .answer)) (sym (a .leaves .answers))
           (feed-tells (feedLengths state work (length errors)) table (stateFor table state) x errors (usedOf state))
 
       lengths : (c : Bool) → feedLengths state work (length errors) ≡ c → feedLengths state work (length errors) ≡ true

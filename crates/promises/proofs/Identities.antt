@@ -129,6 +129,10 @@ same-readings (r ∷ rs) = let stack = same-stack (r .stack) in let rest = same-
 pub renamed-self : (rs : List Reading) → Renamed rs rs
 renamed-self rs = record { rename = λ b. b; same = sym (same-readings rs); apart = λ a b h k e. e }
 
+pub state-self : (s : State) → SameState s s
+state-self nothing = tt
+state-self (just rs) = renamed-self rs
+
 pub renamed-back : (rs rs′ : List Reading) → Renamed rs rs′ → Renamed rs′ rs
 renamed-back rs rs′ a = subst (λ (l : List Reading). Renamed l rs) (sym (a .same)) there
   where

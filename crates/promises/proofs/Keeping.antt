@@ -53,8 +53,8 @@ length-startOf q s = simp (length-putU16, length-putSlot, length-putCell)
 
 module _ (table state work : List ℕ) (r : StartAnswer) (state′ work′ : List ℕ) (a : StartPromise table state work r state′ work′) where
   state-by : (n : ℕ) → startNumber r ≡ n → length state′ ≡ length state
-  state-by zero e = ap length (a .started e .exact) ∙ length-startOf _ state
-  state-by (suc n) e = ap length (a .refused (λ z. omega arith))
+  state-by zero e = ap length (a .leaves .started e .exact) ∙ length-startOf _ state
+  state-by (suc n) e = ap length (a .leaves .refused (λ z. omega arith))
 
   start-keeps : StartKeeps state work r state′ work′
   start-keeps = at (start-case (lengthsRight state work) table (stateFor table state) 0)
@@ -63,18 +63,18 @@ module _ (table state work : List ℕ) (r : StartAnswer) (state′ work′ : Lis
       keeps few wrong right =
           record {
             answer = few;
-            state-kept = λ h. a .refused (λ z. let l = h .0 in omega arith);
+            state-kept = λ h. a .leaves .refused (λ z. let l = h .0 in omega arith);
             state-long = state-by (startNumber r) refl;
             work-left = work-is (lengthsRight state work) (startNumber r) work work′ wrong right (a .cleared);
           }
 
       at : StartStopped (lengthsRight state work) table (stateFor table state) 0 ⊎ StartWent (lengthsRight state work) table (stateFor table state) 0 → StartKeeps state work r state′ work′
       at (inl s) =
-          let e : startNumber r ≡ number (s .by) = a .answers ∙ ap (λ (c : StartCall). c .answer) (s .is) in
+          let e : startNumber r ≡ number (s .by) = a .leaves .answers ∙ ap (λ (c : StartCall). c .answer) (s .is) in
           let f = s .few in
           keeps (omega arith) (λ q. e ∙ s .wrong-lengths q) (λ q z. let t = s .right-lengths q in omega arith)
       at (inr w) =
-          let e : startNumber r ≡ 0 = a .answers ∙ ap (λ (c : StartCall). c .answer) (w .is) in
+          let e : startNumber r ≡ 0 = a .leaves .answers ∙ ap (λ (c : StartCall). c .answer) (w .is) in
           keeps (omega arith) (λ q. no-false (sym q ∙ w .lengths-right)) (λ q z. omega arith)
 
 -- The questions.
@@ -143,12 +143,12 @@ module _ (table state work : List ℕ) (x : Term) (errors : List ErrorRecord) (r
       feedNumbers r .errors ≤ 32 → feedNumbers r .walked ≤ 1081344 → FeedKeeps state work errors r state′ work′ errors′
   unfolding right
   feed-parts few kept long past some walked =
-      let n : feedNumbers r .answer ≡ feedOn table state work x errors .says .answer = ap (λ (m : FeedNumbers). m .answer) (a .answers) in
+      let n : feedNumbers r .answer ≡ feedOn table state work x errors .says .answer = ap (λ (m : FeedNumbers). m .answer) (a .leaves .answers) in
       let t = feed-tells right table (stateFor table state) x errors (usedOf state) in
       record {
         answer = few;
-        state-kept = a .refused;
-        state-long = a .spared .long;
+        state-kept = a .leaves .refused;
+        state-long = a .leaves .spared .long;
         errors-kept = kept;
         errors-long = long;
         errors-past = past;
@@ -163,20 +163,20 @@ module _ (table state work : List ℕ) (x : Term) (errors : List ErrorRecord) (r
     where
       at : FeedStopped right table (stateFor table state) x errors (usedOf state) ⊎ FeedWent right table (stateFor table state) x errors (usedOf state) → FeedKeeps state work errors r state′ work′ errors′
       at (inl s) =
-          let e : feedNumbers r ≡ record { answer = number (s .by); errors = 0; walked = 0 } = a .answers ∙ ap (λ (c : FeedCall). c .says) (s .is) in
+          let e : feedNumbers r ≡ record { answer = number (s .by); errors = 0; walked = 0 } = a .leaves .answers ∙ ap (λ (c : FeedCall). c .says) (s .is) in
           let n : feedNumbers r .answer ≡ number (s .by) = ap (λ (m : FeedNumbers). m .answer) e in
           let c : feedNumbers r .errors ≡ 0 = ap (λ (m : FeedNumbers). m .errors) e in
           let w : feedNumbers r .walked ≡ 0 = ap (λ (m : FeedNumbers). m .walked) e in
-          let same : errors′ ≡ errors = a .errors-are ∙ ap (λ (c : FeedCall). c .errors) (s .is) in
+          let same : errors′ ≡ errors = a .leaves .errors-are ∙ ap (λ (c : FeedCall). c .errors) (s .is) in
           let f = s .few in
           feed-parts (omega arith) (λ h. same) (ap length same) (ap (drop (feedNumbers r .errors)) same) (omega arith) (omega arith)
       at (inr w) =
           let f = feed (tableOf table) x (w .found) (usedOf state) in
-          let e : feedNumbers r ≡ record { answer = f .answer; errors = length (f .errors); walked = f .walked } = a .answers ∙ ap (λ (c : FeedCall). c .says) (w .is) in
+          let e : feedNumbers r ≡ record { answer = f .answer; errors = length (f .errors); walked = f .walked } = a .leaves .answers ∙ ap (λ (c : FeedCall). c .says) (w .is) in
           let n : feedNumbers r .answer ≡ f .answer = ap (λ (m : FeedNumbers). m .answer) e in
           let c : feedNumbers r .errors ≡ length (f .errors) = ap (λ (m : FeedNumbers). m .errors) e in
           let k : feedNumbers r .walked ≡ f .walked = ap (λ (m : FeedNumbers). m .walked) e in
-          let is = a .errors-are ∙ ap (λ (c : FeedCall). c .errors) (w .is) in
+          let is = a .leaves .errors-are ∙ ap (λ (c : FeedCall). c .errors) (w .is) in
           let facts = found-holds table state (w .found) (w .state-is) .facts in
           let bound : Bounded (usedOf state) f = bounds (tableOf table) x (w .found) (usedOf state) (facts .few) (facts .standing) in
           let most = bound .errors in

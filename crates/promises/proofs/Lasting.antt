@@ -39,10 +39,10 @@ start-leaves table state work r state′ work′ a z = at (start-case b table (s
 
     at : StartStopped b table (stateFor table state) 0 ⊎ StartWent b table (stateFor table state) 0 → Fits table state′
     at (inl s) =
-        let e : startNumber r ≡ number (s .by) = a .answers ∙ ap (λ (c : StartCall). c .answer) (s .is) in
+        let e : startNumber r ≡ number (s .by) = a .leaves .answers ∙ ap (λ (c : StartCall). c .answer) (s .is) in
         let l = number-range (s .by) .0 in
         absurd (omega arith)
-    at (inr w) = found-holds table state′ (startReading (tableOf table) 0 ∷ []) (a .readings ∙ ap (λ (c : StartCall). c .state) (w .is)) .fits
+    at (inr w) = found-holds table state′ (startReading (tableOf table) 0 ∷ []) (a .leaves .readings ∙ ap (λ (c : StartCall). c .state) (w .is)) .fits
 
 -- Feed: what it leaves is found, if what it began with was.
 same-some : (s s′ : State) → SameState s s′ → (s ≡ nothing → ⊥) → s′ ≡ nothing → ⊥
@@ -58,10 +58,10 @@ module _ (table state work : List ℕ) (x : Term) (errors : List ErrorRecord) (r
 
   told : Tells right (stateFor table state) (feedNumbers r .answer)
   told =
-      subst (λ (m : FeedNumbers). Tells right (stateFor table state) (m .answer)) (sym (a .answers)) (feed-tells right table (stateFor table state) x errors (usedOf state))
+      subst (λ (m : FeedNumbers). Tells right (stateFor table state) (m .answer)) (sym (a .leaves .answers)) (feed-tells right table (stateFor table state) x errors (usedOf state))
 
   kept : (stateFor table state ≡ nothing → ⊥) → Fits table state′
-  kept h = some-fits table state′ (same-some (feedOn table state work x errors .state) (stateFor table state′) (a .readings) (at (feed-case right table (stateFor table state) x errors (usedOf state))))
+  kept h = some-fits table state′ (same-some (feedOn table state work x errors .state) (stateFor table state′) (a .leaves .readings) (at (feed-case right table (stateFor table state) x errors (usedOf state))))
     where
       at : FeedStopped right table (stateFor table state) x errors (usedOf state) ⊎ FeedWent right table (stateFor table state) x errors (usedOf state) → feedOn table state work x errors .state ≡ nothing → ⊥
       at (inl s) e = h (sym (ap (λ (c : FeedCall). c .state) (s .is)) ∙ e)

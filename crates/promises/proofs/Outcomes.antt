@@ -75,12 +75,12 @@ stack-back (stack.Refused k) = refused-back (stack.Read 0 0) (stack.Read 0 0) st
 
 module _ (table state work : List ℕ) (r q : StartAnswer) (state₁ work₁ state₂ work₂ : List ℕ) (a : StartPromise table state work r state₁ work₁) (b : StartPromise table state work q state₂ work₂) where
   same-number : startNumber r ≡ startNumber q
-  same-number = a .answers ∙ sym (b .answers)
+  same-number = a .leaves .answers ∙ sym (b .leaves .answers)
 
   -- the state by the number
   same-state : (n : ℕ) → startNumber r ≡ n → state₁ ≡ state₂
-  same-state zero e = a .started e .exact ∙ sym (b .started (sym same-number ∙ e) .exact)
-  same-state (suc n) e = a .refused (λ z. omega arith) ∙ sym (b .refused (λ z. let y = same-number in omega arith))
+  same-state zero e = a .leaves .started e .exact ∙ sym (b .leaves .started (sym same-number ∙ e) .exact)
+  same-state (suc n) e = a .leaves .refused (λ z. omega arith) ∙ sym (b .leaves .refused (λ z. let y = same-number in omega arith))
 
   pub start-determined : (r ≡ q) × (state₁ ≡ state₂) × (work₁ ≡ work₂)
   start-determined = (sym (start-back r) ∙ ap start-of same-number ∙ start-back q, same-state (startNumber r) refl, a .cleared ∙ sym (b .cleared))
@@ -103,13 +103,13 @@ same-plain (just rs) (just rs′) h = ap {B = State} just (sym (renamed-plain rs
 module _ (table state work : List ℕ) (x : Term) (errors : List ErrorRecord) (r q : FeedAnswer) (state₁ work₁ state₂ work₂ : List ℕ) (errors₁ errors₂ : List ErrorRecord)
     (a : FeedPromise table state work x errors r state₁ work₁ errors₁) (b : FeedPromise table state work x errors q state₂ work₂ errors₂) where
   same-numbers : feedNumbers r ≡ feedNumbers q
-  same-numbers = a .answers ∙ sym (b .answers)
+  same-numbers = a .leaves .answers ∙ sym (b .leaves .answers)
 
   -- both are the definition's, each under identities of its own
   same-states : SameState (stateFor table state₁) (stateFor table state₂)
   same-states =
       let s : State = feedOn table state work x errors .state in
-      state-on (stateFor table state₁) s (stateFor table state₂) (state-back s (stateFor table state₁) (a .readings)) (b .readings)
+      state-on (stateFor table state₁) s (stateFor table state₂) (state-back s (stateFor table state₁) (a .leaves .readings)) (b .leaves .readings)
 
   pub feed-determined : SameOutcome table r q state₁ state₂ work₁ work₂ errors₁ errors₂
   feed-determined =
@@ -117,7 +117,7 @@ module _ (table state work : List ℕ) (x : Term) (errors : List ErrorRecord) (r
         answer = sym (feed-back r) ∙ ap feed-of same-numbers ∙ feed-back q;
         states = same-states;
         readings = same-plain (stateFor table state₁) (stateFor table state₂) same-states;
-        refused = λ h. a .refused h ∙ sym (b .refused (subst (λ (m : FeedNumbers). (1 ≤ m .answer) × (m .answer ≤ 11)) same-numbers h));
+        refused = λ h. a .leaves .refused h ∙ sym (b .leaves .refused (subst (λ (m : FeedNumbers). (1 ≤ m .answer) × (m .answer ≤ 11)) same-numbers h));
         work = a .cleared ∙ sym (b .cleared);
-        errors = a .errors-are ∙ sym (b .errors-are);
+        errors = a .leaves .errors-are ∙ sym (b .leaves .errors-are);
       }

@@ -10,8 +10,9 @@ use borrow.Author.Tests.{ltb-true}
 use Rattle.meaning.specs.Answers.{feedNumbers}
 use Rattle.meaning.specs.Applying.{actOn, spanStart, reduced, shifted, refusedAction, unplanned, apply}
 use Rattle.meaning.specs.Basics.{if_then_else_, both, nothing, just, isNil, every, AllOf, find}
+use Rattle.meaning.specs.Bounds.{maxBirths}
 use Rattle.meaning.specs.Bytes.{u16At, u32At}
-use Rattle.meaning.specs.Calls.{State, checkState, StartCall, startCall, wrongTerm, FeedCall, feedRefused, feedEnded, feedCall}
+use Rattle.meaning.specs.Calls.{State, checkState, StartCall, startCall, wrongClass, wrongTerm, FeedCall, feedRefused, feedEnded, feedRight, feedCall}
 use Rattle.meaning.specs.Chains.{recordAt}
 use Rattle.meaning.specs.Feeding.{planAll, applyAll, settle, first, feed}
 use Rattle.meaning.specs.Identities.{renEntry, renReading}
@@ -38,7 +39,7 @@ use Rattle.promises.specs.Calls.{startOn, Renamed, SameState, feedOn}
 use Rattle.promises.specs.Runs.{Feeding, Meets, AllMeet, Calls, seenStart, seenFeed, lastSeen, seenOf, KnownCalls}
 use Rattle.promises.proofs.Buffers.{found-holds, long-lengths, long-feed}
 use Rattle.promises.proofs.Checks.{goes-by, goes}
-use Rattle.promises.proofs.Identities.{renamed-self, state-on}
+use Rattle.promises.proofs.Identities.{state-self, state-on}
 use Rattle.promises.proofs.Keeping.{demand1}
 use Rattle.promises.proofs.Steps.{OfAll, fed-onward, left-onward}
 
@@ -105,7 +106,7 @@ module _ (table : List ℕ) (ok : tableOk table ≡ true) (x : Term) where
   past s errors n = checkState s (feedRefused s errors) (goes true table s x errors n (tableOf table))
 
   call-is : (s : State) (errors : List ErrorRecord) (n : ℕ) → feedCall true table s x errors n ≡ past s errors n
-  unfolding feedCall
+  unfolding feedCall feedRight
   call-is s errors n = ap (λ (b : Bool). if not b then feedRefused s errors WrongTable else past s errors n) ok
 
   ended : (rs rs′ : List Reading) (errors : List ErrorRecord) (n m : ℕ) → Below n (just rs) → Below m (just rs′) → Renamed rs rs′ →
@@ -127,8 +128,8 @@ module _ (table : List ℕ) (ok : tableOk table ≡ true) (x : Term) where
   past-same nothing (just rs) errors n m a b h = absurd h
   past-same (just rs) nothing errors n m a b h = absurd h
   past-same (just rs) (just rs′) errors n m a b h =
-      subst (λ (c : Bool). SameCall (past (just rs) [] n) (goes-by true table (just rs′) x errors m c (wrongTerm (tableOf table) x) (tableOf table) rs′)) (sym (nil-map (renReading (h .rename)) rs) ∙ sym (ap isNil (h .same)))
-      (at (isNil rs) (wrongTerm (tableOf table) x))
+      subst (λ (c : Bool). SameCall (past (just rs) [] n) (goes-by true table (just rs′) x errors m c (wrongTerm (tableOf table .counts .classes) x) (tableOf table) rs′)) (sym (nil-map (renReading (h .rename)) rs) ∙ sym (ap isNil (h .same)))
+      (at (isNil rs) (wrongTerm (tableOf table .counts .classes) x))
     where
       at : (c d : Bool) → SameCall (goes-by true table (just rs) x [] n c d (tableOf table) rs) (goes-by true table (just rs′) x errors m c d (tableOf table) rs′)
       at true d = record { says = refl; states = h; errors = refl }
@@ -147,9 +148,9 @@ module _ (table : List ℕ) (ok : tableOk table ≡ true) (x : Term) where
   shown : (s : State) (n : ℕ) (state : List ℕ) (c : Feeding) → length state ≡ stateLength → Below n s → SameState s (stateFor table state) → Meets table state x c → Shown s n c
   shown s n state c l a h k =
       record {
-        shows = λ i. record { says = (k .promise .answers ∙ same .says) i; readings = seen-same (d .state) (stateFor table (c .state′)) left i; errors = errors-are i };
+        shows = λ i. record { says = (k .promise .leaves .answers ∙ same .says) i; readings = seen-same (d .state) (stateFor table (c .state′)) left i; errors = errors-are i };
         leaves = left;
-        long = k .promise .spared .long ∙ l;
+        long = k .promise .leaves .spared .long ∙ l;
       }
     where
       d : FeedCall
@@ -167,19 +168,19 @@ module _ (table : List ℕ) (ok : tableOk table ≡ true) (x : Term) where
           (calls-same s (stateFor table state) (c .errors) n (usedOf state) a (below-used table state) h)
 
       left : SameState (d .state) (stateFor table (c .state′))
-      left = state-on (d .state) (d′ .state) (stateFor table (c .state′)) (same .states) (k .promise .readings)
+      left = state-on (d .state) (d′ .state) (stateFor table (c .state′)) (same .states) (k .promise .leaves .readings)
 
       errors-are : take (feedNumbers (c .answer) .errors) (c .errors′) ≡ d .errors
-      errors-are = ap₂ {C = List ErrorRecord} (λ (m : FeedNumbers) l. take (m .errors) l) (k .promise .answers) (k .promise .errors-are) ∙ same .errors
+      errors-are = ap₂ {C = List ErrorRecord} (λ (m : FeedNumbers) l. take (m .errors) l) (k .promise .leaves .answers) (k .promise .leaves .errors-are) ∙ same .errors
 
 -- A run is ready if its table is right and the identities of each state that it feeds lie below those that the feed is given.
 
 unfoldable pub freshAll : (table : List ℕ) → State → List Term → (next : ℕ) → Bool
 freshAll table s [] n = true
-freshAll table s (x ∷ more) n = both (below n s) (freshAll table (feedCall true table s x [] n .state) more (n + 1000))
+freshAll table s (x ∷ more) n = both (below n s) (freshAll table (feedCall true table s x [] n .state) more (n + maxBirths))
 
 unfoldable pub ready : Run → Bool
-ready r = both (tableOk (r .table)) (freshAll (r .table) (startCall true (r .table) nothing 0 .state) (r .terms) 1000)
+ready r = both (tableOk (r .table)) (freshAll (r .table) (startCall true (r .table) nothing 0 .state) (r .terms) 1)
 
 feeds-shown : (table : List ℕ) → tableOk table ≡ true → (xs : List Term) (cs : List Feeding) (s : State) (n : ℕ) (state : List ℕ) (last last′ : Outcome) → length state ≡ stateLength →
     SameState s (stateFor table state) → freshAll table s xs n ≡ true → last ≡ last′ → AllMeet table state xs cs → lastSeen table last cs ≡ feedAll table s xs n last′
@@ -189,7 +190,7 @@ feeds-shown table ok [] (c ∷ cs) s n state last last′ l h f e k = absurd k
 feeds-shown table ok (x ∷ xs) [] s n state last last′ l h f e k = absurd k
 feeds-shown table ok (x ∷ xs) (c ∷ cs) s n state last last′ l h f e k =
     let g = shown table ok x s n state c l (below-claim n s (both-left (below n s) _ f)) h (k .0) in
-    feeds-shown table ok xs cs (feedCall true table s x [] n .state) (n + 1000) (c .state′) (seenFeed table c) (fed (feedCall true table s x [] n)) (g .long) (g .leaves) (both-right (below n s) _ f)
+    feeds-shown table ok xs cs (feedCall true table s x [] n .state) (n + maxBirths) (c .state′) (seenFeed table c) (fed (feedCall true table s x [] n)) (g .long) (g .leaves) (both-right (below n s) _ f)
     (g .shows) (k .1)
 
 -- A start under a right table does not depend on what the buffer held.
@@ -197,17 +198,13 @@ start-is : (table : List ℕ) → tableOk table ≡ true → (s : State) → sta
 unfolding startCall
 start-is table ok s = ap {B = StartCall} (λ (b : Bool). if not b then record { answer = 2; state = s } else record { answer = 0; state = just (startReading (tableOf table) 0 ∷ []) }) ok
 
-state-self : (s : State) → SameState s s
-state-self nothing = tt
-state-self (just rs) = renamed-self rs
-
 -- The calls of a ready run show what its definition shows.
 pub run-shown : (run : Run) → ready run ≡ true → (c : Calls run) → seenOf run c ≡ outcome run
 unfolding ready outcome
 run-shown run f c =
-    feeds-shown table ok (run .terms) (c .feeds) (d .state) 1000 (c .state′) (seenStart table (c .answer) (c .state′)) (started d) long
-    (subst (SameState (d .state)) (sym state-is) (state-self (d .state))) (both-right (tableOk table) (freshAll table (d .state) (run .terms) 1000) f)
-    (λ i. record { says = record { answer = (c .start .answers ∙ ap (λ (e : StartCall). e .answer) same) i; errors = 0; walked = 0 }; readings = seenState (state-is i); errors = [] })
+    feeds-shown table ok (run .terms) (c .feeds) (d .state) 1 (c .state′) (seenStart table (c .answer) (c .state′)) (started d) long
+    (subst (SameState (d .state)) (sym state-is) (state-self (d .state))) (both-right (tableOk table) (freshAll table (d .state) (run .terms) 1) f)
+    (λ i. record { says = record { answer = (c .start .leaves .answers ∙ ap (λ (e : StartCall). e .answer) same) i; errors = 0; walked = 0 }; readings = seenState (state-is i); errors = [] })
     (c .meet)
   where
     table : List ℕ
@@ -217,7 +214,7 @@ run-shown run f c =
     d = startCall true table nothing 0
 
     ok : tableOk table ≡ true
-    ok = both-left (tableOk table) (freshAll table (d .state) (run .terms) 1000) f
+    ok = both-left (tableOk table) (freshAll table (d .state) (run .terms) 1) f
 
     same : startOn table (c .state) (c .work) ≡ d
     same =
@@ -225,7 +222,7 @@ run-shown run f c =
         ∙ start-is table ok (stateFor table (c .state)) ∙ sym (start-is table ok nothing)
 
     state-is : stateFor table (c .state′) ≡ d .state
-    state-is = c .start .readings ∙ ap (λ (e : StartCall). e .state) same
+    state-is = c .start .leaves .readings ∙ ap (λ (e : StartCall). e .state) same
 
     long : length (c .state′) ≡ stateLength
     long = demand1 .start table (c .state) (c .work) (c .answer) (c .state′) (c .work′) (c .start) .state-long ∙ c .state-long
@@ -239,7 +236,7 @@ runs-shown (run ∷ l) e f = (
 )
 
 all-ready : every ready knownRuns ≡ true
-unfolding find u16At u32At fieldAt countsOf viewOf places ruleAt rulesFrom shiftTo numbers actionAt gotoAt actionsOf gotosOf tableOf actionOf gotoOf ruleOf startState countsRight frontRight middleRight backRight shapeRight frameRight picks kindRight ruleRight rulesBelow actionRight gotoRight actionFormat gotoFormat keyOf ascends recordsRight fieldRight contentRight tableOk act holds heldBy startReading recordAt endChain reduction walkRules walkState walkFrom plan ends actOn spanStart reduced shifted refusedAction unplanned apply errorTerm isHeld recoverOne recoverAll longerTop stays takeTerm recover planAll applyAll settle first feed startCall wrongTerm feedCall below freshAll ready knownRuns
+unfolding find u16At u32At fieldAt countsOf viewOf places ruleAt rulesFrom shiftTo numbers actionAt gotoAt actionsOf gotosOf tableOf actionOf gotoOf ruleOf startState countsRight frontRight middleRight backRight shapeRight frameRight picks kindRight ruleRight rulesBelow actionRight gotoRight actionFormat gotoFormat keyOf ascends recordsRight fieldRight contentRight tableOk act holds heldBy startReading recordAt endChain reduction walkRules walkState walkFrom plan ends actOn spanStart reduced shifted refusedAction unplanned apply errorTerm isHeld recoverOne recoverAll longerTop stays takeTerm recover planAll applyAll settle first feed startCall wrongClass wrongTerm feedRight feedCall below freshAll ready knownRuns
 all-ready = refl
 
 pub known-calls : KnownCalls

@@ -24,15 +24,19 @@ use Rattle.state.specs.Layout.{readingsAt, slotSize, countAt}
 use Rattle.state.specs.Readings.{countOf, usedOf}
 use Rattle.promises.specs.Buffers.{lengthsRight, feedLengths, listsRight, stateFor, workAfter}
 
--- Start. The new entry has the identity 0; what is refused leaves the state byte for byte as it was.
+-- Start. The new entry has the identity 0.
 abbrev pub startOn : (table state work : List ℕ) → StartCall
 startOn table state work = startCall (lengthsRight state work) table (stateFor table state) 0
 
-pub record StartPromise (table state work : List ℕ) (r : StartAnswer) (state′ work′ : List ℕ) : Type 0 where
-  pub answers : startNumber r ≡ startOn table state work .answer
-  pub readings : stateFor table state′ ≡ startOn table state work .state
+-- What a start answers and leaves where its definition comes to this call: what is refused leaves the state byte for byte as it was.
+pub record StartLeaves (table state : List ℕ) (call : StartCall) (r : StartAnswer) (state′ : List ℕ) : Type 0 where
+  pub answers : startNumber r ≡ call .answer
+  pub readings : stateFor table state′ ≡ call .state
   pub refused : (startNumber r ≡ done → ⊥) → state′ ≡ state
   pub started : startNumber r ≡ done → Started (stateNo (startState (tableOf table))) state state′
+
+pub record StartPromise (table state work : List ℕ) (r : StartAnswer) (state′ work′ : List ℕ) : Type 0 where
+  pub leaves : StartLeaves table state (startOn table state work) r state′
   pub cleared : work′ ≡ workAfter (lengthsRight state work) work
 
 -- The questions, which change neither table nor state: a call's answer for right and for wrong lengths, and the work area.
@@ -76,14 +80,21 @@ pub record Spared (state state′ : List ℕ) : Type 0 where
   pub cells : Agree state′ state (cellSize * usedOf state′) (readingsAt - cellSize * usedOf state′)
   pub slots : Agree state′ state (readingsAt + slotSize * countOf state′) (countAt - (readingsAt + slotSize * countOf state′))
 
-abbrev pub feedOn : (table state work : List ℕ) → Term → List ErrorRecord → FeedCall
-feedOn table state work x errors = feedCall (feedLengths state work (length errors)) table (stateFor table state) x errors (usedOf state)
-
--- Answers 1 to 11 leave the state byte for byte as it was.
-pub record FeedPromise (table state work : List ℕ) (x : Term) (errors : List ErrorRecord) (r : FeedAnswer) (state′ work′ : List ℕ) (errors′ : List ErrorRecord) : Type 0 where
-  pub answers : feedNumbers r ≡ feedOn table state work x errors .says
-  pub readings : SameState (feedOn table state work x errors .state) (stateFor table state′)
+-- What a feed answers and leaves where its definition comes to this call. Answers 1 to 11 leave the state byte for byte as it was.
+pub record FeedLeaves (table state : List ℕ) (call : FeedCall) (r : FeedAnswer) (state′ : List ℕ) (errors′ : List ErrorRecord) : Type 0 where
+  pub answers : feedNumbers r ≡ call .says
+  pub readings : SameState (call .state) (stateFor table state′)
   pub refused : (1 ≤ feedNumbers r .answer) × (feedNumbers r .answer ≤ 11) → state′ ≡ state
   pub spared : Spared state state′
-  pub errors-are : errors′ ≡ feedOn table state work x errors .errors
+  pub errors-are : errors′ ≡ call .errors
+
+-- for a lent list of so many places and these records
+abbrev pub feedFor : (table state work : List ℕ) → Term → (places : ℕ) → List ErrorRecord → FeedCall
+feedFor table state work x places errors = feedCall (feedLengths state work places) table (stateFor table state) x errors (usedOf state)
+
+abbrev pub feedOn : (table state work : List ℕ) → Term → List ErrorRecord → FeedCall
+feedOn table state work x errors = feedFor table state work x (length errors) errors
+
+pub record FeedPromise (table state work : List ℕ) (x : Term) (errors : List ErrorRecord) (r : FeedAnswer) (state′ work′ : List ℕ) (errors′ : List ErrorRecord) : Type 0 where
+  pub leaves : FeedLeaves table state (feedOn table state work x errors) r state′ errors′
   pub cleared : work′ ≡ workAfter (feedLengths state work (length errors)) work

@@ -5,10 +5,9 @@ ghost use Rattle.meaning.specs.Questions.{takes, canEnd, someRecovers, canRecov
 ghost use Rattle.state.specs.Layout.{readingsAt};
 ghost use Rattle.state.specs.Readings.{readingsFrom, readingsOf};
 ghost use Rattle.questions.specs.Asking.{AsksList, AsksState};
+use meaning::END_CLASS;
 use meaning::QuestionAnswer;
 use meaning::View;
-
-const END_CLASS: u16 = 0;
 
 // The readings of the state from the reading i on, first to last: the first yes or the first refusal decides.
 fn takes_from(

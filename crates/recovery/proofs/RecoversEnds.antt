@@ -73,11 +73,14 @@ module _ (s : List ℕ) (view : View) (w : List ℕ) (so : SoFar) (y : SecondRea
         area = record { long = y .area .long; low = omega arith; high = omega arith; cells = y .area .cells; results = omega arith; errors = y .area .errors; stand = λ j p q. absurd (omega arith) };
         few = few;
         stand = y .area .stand;
-        cells = so .counts .cells;
-        errors = so .counts .errors;
-        few-cells = y .few-cells;
-        few-errors = errors;
-        paced = record { chains = omega arith; births = omega arith; results = omega arith; both = omega arith };
+        roomy =
+            record {
+              cells = so .counts .cells;
+              errors = so .counts .errors;
+              few-cells = y .few-cells;
+              few-errors = errors;
+              paced = record { chains = omega arith; births = omega arith; results = omega arith; both = omega arith };
+            };
         walked = omega arith;
       }
 

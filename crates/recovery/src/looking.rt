@@ -7,12 +7,11 @@ ghost use Rattle.recovery.specs.Looking.{others, emptyTerm, longerTerm, 
 use super::Stage;
 use actions::Top;
 use meaning::CellNo;
+use meaning::ERROR_CLASS;
 use meaning::Term;
 use meaning::View;
 use taking::SoFar;
 use taking::Taking;
-
-const ERROR_CLASS: u16 = 1;
 
 // The readings that still wait: so many, from the reading `next` on.
 struct Waiting {

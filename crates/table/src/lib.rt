@@ -5,6 +5,7 @@ ghost use Rattle.meaning.specs.TableRight.{contentRight};
 ghost use Rattle.table.specs.Answers.{checkOf, Belongs, actionAnswer, gotoAnswer};
 ghost use Rattle.table.specs.Records.{Framed};
 use meaning::Rule;
+use meaning::START_CLASS;
 use meaning::StateNo;
 use meaning::View;
 
@@ -18,9 +19,6 @@ pub use frame::MAX_CLASSES;
 pub use frame::MAX_NONTERMINALS;
 pub use frame::MAX_RULES;
 pub use frame::MAX_STATES;
-
-// A right table file has a shift of state 0 at this class.
-const START_CLASS: u16 = 2;
 
 pub enum Checked {
     Wrong,

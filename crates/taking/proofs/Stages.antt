@@ -16,9 +16,13 @@ use Rattle.actions.specs.Telling.{Area, Stands}
 use Rattle.actions.specs.declared.Counts.{Counts}
 use Rattle.actions.specs.declared.Top.{Top}
 use Rattle.applying.specs.Planting.{Since}
-use Rattle.taking.specs.Taking.{Paced, Takes, Leaves}
+use Rattle.taking.specs.Taking.{Paced, Roomy, Takes, Leaves}
 use Rattle.taking.specs.Stages.{madeOf, Further}
 use Rattle.taking.specs.declared.SoFar.{SoFar}
+
+-- there is room as before where no more came about than the chains allow
+pub roomy-on : (so so′ : SoFar) → ((cells errors : ℕ) → Paced cells errors so → Paced cells errors so′) → Roomy so → Roomy so′
+roomy-on so so′ g y = record { cells = y .cells; errors = y .errors; few-cells = y .few-cells; few-errors = y .few-errors; paced = g (y .cells) (y .errors) (y .paced) }
 
 pub since-made : (list : ℕ) (w : List ℕ) (n : Counts) (w′ : List ℕ) (n′ : Counts) (o : Applied) → Since list w n w′ n′ o → madeOf list w′ n′ ≡ joined (madeOf list w n) o
 since-made list w n w′ n′ o g =

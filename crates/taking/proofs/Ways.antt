@@ -41,7 +41,7 @@ soFar n w c = record { counts = n; walked = w; chains = c }
 module _ (s : List ℕ) (view : View) (w : List ℕ) (list : ℕ) (x : Term) (r : Top) (so : SoFar) (y : TakeReady s view w list r so) where
   pub ready-to-plan : PlanReady s view w 16 r (so .chains)
   ready-to-plan =
-      record { belongs = y .belongs; long = y .area .long; counts = so .counts; cells = y .area .cells; stands = y .stands; fits = y .paced .chains; bound = omega arith }
+      record { belongs = y .belongs; long = y .area .long; counts = so .counts; cells = y .area .cells; stands = y .stands; fits = y .roomy .paced .chains; bound = omega arith }
 
   module _ (w₁ : List ℕ) (answer : Planned) (d : PlanDone (planned (tableOf s) x w r so) w w₁ answer) where
     pub refused-way : (k : Refusal) → answer ≡ planned-as.Refused k → Refuses (tableOf s) x w r so k w₁
@@ -52,19 +52,19 @@ module _ (s : List ℕ) (view : View) (w : List ℕ) (list : ℕ) (x : Term) (r 
       walk = plans (tableOf s) 16 (x .class) (states (stackIn w r)) (so .chains) answer (marksOf w₁) k ended (d .says) (d .holds) e
 
       at-most : ended ≤ 16
-      at-most = walk .fits (y .paced .chains)
+      at-most = walk .fits (y .roomy .paced .chains)
 
       pub total-fits : so .walked + k < 18446744073709551616
       total-fits = let a = walk .few in let b = y .walked in omega arith
 
       births-fit : so .counts .cells + 33 * ended ≤ 2096 + 33 * so .chains
-      births-fit = let a = y .paced .births in let b = y .few-cells in let m = at-most in omega arith
+      births-fit = let a = y .roomy .paced .births in let b = y .roomy .few-cells in let m = at-most in omega arith
 
       results-fit : so .counts .results + ended ≤ 16 + so .chains
-      results-fit = let a = y .paced .results in let m = at-most in omega arith
+      results-fit = let a = y .roomy .paced .results in let m = at-most in omega arith
 
       errors-fit : so .counts .errors + ended ≤ 32 + so .chains
-      errors-fit = let a = y .paced .both in let b = y .few-errors in let m = at-most in omega arith
+      errors-fit = let a = y .roomy .paced .both in let b = y .roomy .few-errors in let m = at-most in omega arith
 
       pub ready-to-apply : ReadingReady s view w₁ list x r (so .counts)
       ready-to-apply = ready-planned s view list x r (so .counts) w w₁ (so .chains) answer k ended (y .belongs) (y .area) (y .stands) d e births-fit results-fit errors-fit

@@ -1,18 +1,14 @@
 -- `asking::can_end` meets its contract. Assumes nothing.
-use mathlib.Core.Path.{_∙_}
 use Rattle.machine.proofs.Asks.{asks-state, end-refused, end-right}
 use borrow.Author.Needs.{needs}
 use Rattle.machine.proofs.asking.can_end.Statement.{statement}
 use Rattle.machine.proofs.asking.can_end.Tie as tie
 
-can-end-requires : tie.Need-can-end-requires
-can-end-requires c κs = search (asks-state)
-
 returns : tie.Need-returns
 returns c = search (end-refused)
 
 returns-2 : tie.Need-returns-2
-returns-2 c = c .before .before .can-end .ensures ∙ search (end-right)
+returns-2 c = search (end-right)
 
 pub can-end-spec : {M : Type 1} → statement M
 can-end-spec =
@@ -21,7 +17,7 @@ can-end-spec =
     (λ c κs. search needs)
     (λ c. search needs)
     (λ c. search needs)
-    can-end-requires
+    (λ c κs. search (asks-state))
     returns
     (λ c. search needs)
     returns-2)

@@ -1,18 +1,14 @@
 -- `asking::can_recover` meets its contract. Assumes nothing.
-use mathlib.Core.Path.{_∙_}
 use Rattle.machine.proofs.Asks.{asks-state, recover-refused, recover-right}
 use borrow.Author.Needs.{needs}
 use Rattle.machine.proofs.asking.can_recover.Statement.{statement}
 use Rattle.machine.proofs.asking.can_recover.Tie as tie
 
-can-recover-requires : tie.Need-can-recover-requires
-can-recover-requires c κs = search (asks-state)
-
 returns : tie.Need-returns
 returns c = search (recover-refused)
 
 returns-2 : tie.Need-returns-2
-returns-2 c = c .before .before .can-recover .ensures ∙ search (recover-right)
+returns-2 c = search (recover-right)
 
 pub can-recover-spec : {M : Type 1} → statement M
 can-recover-spec =
@@ -21,7 +17,7 @@ can-recover-spec =
     (λ c κs. search needs)
     (λ c. search needs)
     (λ c. search needs)
-    can-recover-requires
+    (λ c κs. search (asks-state))
     returns
     (λ c. search needs)
     returns-2)

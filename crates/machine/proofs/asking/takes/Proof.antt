@@ -1,5 +1,4 @@
 -- `asking::takes` meets its contract. Assumes nothing.
-use mathlib.Core.Path.{_∙_}
 use Rattle.machine.proofs.Asks.{asks-state, takes-refused, takes-right}
 use borrow.Author.Needs.{needs}
 use Rattle.machine.proofs.asking.takes.Statement.{statement}
@@ -12,7 +11,7 @@ returns : tie.Need-returns
 returns c = search (takes-refused)
 
 returns-2 : tie.Need-returns-2
-returns-2 c = c .before .before .takes-right .ensures ∙ search (takes-right)
+returns-2 c = search (takes-right)
 
 pub takes-spec : {M : Type 1} → statement M
 takes-spec =

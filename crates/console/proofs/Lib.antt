@@ -1,0 +1,2 @@
+-- Laws of what the trace says.
+pub mod Tracing

@@ -1,0 +1,2 @@
+-- What the programs' library promises.
+pub mod Tracing
