@@ -138,13 +138,8 @@ pub fn reduce_one(
             }
         }
         Acted::Refuses => {
-            refuse(
-                &mut *work,
-                reading,
-                counts.errors,
-                number,
-                popping::high(rule.len),
-            );
+            let len = popping::high(rule.len);
+            refuse(&mut *work, reading, counts.errors, number, len);
             Step::Refused {
                 counts: Counts {
                     cells: counts.cells,

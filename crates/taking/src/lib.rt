@@ -5,6 +5,7 @@ ghost use Rattle.state.specs.Readings.{ListIn};
 ghost use Rattle.taking.specs.Taking.{topOf, TakeReady, TakingIs};
 use actions::Counts;
 use actions::Top;
+use applying::apply_reading;
 use chains::Planned;
 use meaning::Refusal;
 use meaning::Term;
@@ -66,15 +67,7 @@ pub fn take_reading(
                     chains,
                 });
             }
-            let after = applying::apply_reading(
-                table,
-                view,
-                &mut *work,
-                list,
-                term,
-                reading,
-                counts,
-            );
+            let after = apply_reading(table, view, &mut *work, list, term, reading, counts);
             Taking::Took(SoFar {
                 counts: after,
                 walked: total,

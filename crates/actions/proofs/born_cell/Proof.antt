@@ -1,3 +1,4 @@
+-- `born_cell` meets its contract. Assumes nothing.
 use Rattle.actions.proofs.StepLaws.{born-cell}
 use borrow.Author.Needs.{needs}
 use Rattle.actions.proofs.born_cell.Statement.{statement}

@@ -1,3 +1,4 @@
+-- `lands_in` meets its contract. Assumes nothing.
 use Rattle.actions.proofs.StepLaws.{goto-to, goto-none}
 use borrow.Author.Needs.{needs}
 use Rattle.actions.proofs.lands_in.Statement.{statement}

@@ -1,3 +1,4 @@
+-- `apply_reading` meets its contract. Assumes nothing.
 use Rattle.applying.proofs.Readings.{reading-ready, reading-done}
 use borrow.Author.Needs.{needs}
 use Rattle.applying.proofs.apply_reading.Statement.{statement}

@@ -1,3 +1,4 @@
+-- `chains_below` meets its contract. Assumes nothing.
 use Rattle.applying.specs.Following.{marksOf}
 use borrow.Author.Needs.{needs}
 use Rattle.applying.proofs.chains_below.Statement.{statement}

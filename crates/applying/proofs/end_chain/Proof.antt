@@ -1,3 +1,4 @@
+-- `end_chain` meets its contract. Assumes nothing.
 use Rattle.applying.proofs.Endings.{shift-ready, told-shift, told-no-shift}
 use borrow.Author.Needs.{needs}
 use Rattle.applying.proofs.end_chain.Statement.{statement}

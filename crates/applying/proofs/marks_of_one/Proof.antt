@@ -1,3 +1,4 @@
+-- `marks_of_one` meets its contract. Assumes nothing.
 use Rattle.applying.specs.Following.{marksOf}
 use borrow.Author.Needs.{needs}
 use Rattle.applying.proofs.marks_of_one.Statement.{statement}

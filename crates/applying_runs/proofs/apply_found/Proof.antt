@@ -1,3 +1,4 @@
+-- `apply_found` meets its contract. Assumes nothing.
 use Rattle.applying_runs.proofs.Finding.{plan-ready, apply-ready}
 use borrow.Author.Needs.{needs}
 use Rattle.applying_runs.proofs.apply_found.Statement.{statement}

@@ -1,3 +1,4 @@
+-- `apply_one` meets its contract. Assumes nothing.
 use borrow.Author.Needs.{needs}
 use Rattle.applying_runs.proofs.apply_one.Statement.{statement}
 use Rattle.applying_runs.proofs.apply_one.Tie as tie

@@ -1,3 +1,4 @@
+-- `found` meets its contract. Assumes nothing.
 use Rattle.applying_runs.proofs.Finding.{not-found, is-found}
 use borrow.Author.Needs.{needs}
 use Rattle.applying_runs.proofs.found.Statement.{statement}

@@ -1,3 +1,4 @@
+-- `run_bytes` meets its contract. Assumes nothing.
 use Rattle.table.proofs.Checking.{belongs-of}
 use borrow.Author.Needs.{needs}
 use Rattle.applying_runs.proofs.run_bytes.Statement.{statement}

@@ -1,3 +1,4 @@
+-- `running::answered` meets its contract. Assumes nothing.
 use Rattle.covered.proofs.RunParts.{run-taken, run-not}
 use borrow.Author.Needs.{needs}
 use Rattle.covered.proofs.running.answered.Statement.{statement}

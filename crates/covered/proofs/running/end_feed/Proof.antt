@@ -1,3 +1,4 @@
+-- `running::end_feed` meets its contract. Assumes nothing.
 use Rattle.covered.proofs.RunParts.{commit-ready, ended-run}
 use borrow.Author.Needs.{needs}
 use Rattle.covered.proofs.running.end_feed.Statement.{statement}

@@ -1,3 +1,4 @@
+-- `running::feed_found` meets its contract. Assumes nothing.
 use Rattle.covered.proofs.Runs.{right-ready, found-refused, found-right}
 use borrow.Author.Needs.{needs}
 use Rattle.covered.proofs.running.feed_found.Statement.{statement}

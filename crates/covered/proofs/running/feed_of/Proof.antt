@@ -1,3 +1,4 @@
+-- `running::feed_of` meets its contract. Assumes nothing.
 use Rattle.covered.proofs.Runs.{feed-line, run-done, run-length}
 use borrow.Author.Needs.{needs}
 use Rattle.covered.proofs.running.feed_of.Statement.{statement}

@@ -1,3 +1,4 @@
+-- `running::feed_right` meets its contract. Assumes nothing.
 use Rattle.covered.proofs.Runs.{right-consumed, right-wrong, ends-ready, right-refused, right-ended}
 use borrow.Author.Needs.{needs}
 use Rattle.covered.proofs.running.feed_right.Statement.{statement}

@@ -1,3 +1,4 @@
+-- `running::stages` meets its contract. Assumes nothing.
 use Rattle.covered.proofs.RunParts.{load-ready, first-ready, recover-ready, stages-refused, stages-ended, stages-recovered}
 use borrow.Author.Needs.{needs}
 use Rattle.covered.proofs.running.stages.Statement.{statement}

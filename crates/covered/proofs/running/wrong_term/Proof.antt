@@ -1,3 +1,4 @@
+-- `running::wrong_term` meets its contract. Assumes nothing.
 use Rattle.covered.proofs.RunParts.{wrong-low, wrong-high, wrong-span}
 use Rattle.covered.proofs.running.wrong_term.Statement.{statement}
 use Rattle.covered.proofs.running.wrong_term.Tie as tie
