@@ -28,9 +28,10 @@ use Rattle.actions.specs.declared.Top.{Top}
 use Rattle.actions.proofs.Keeping.{marks-kept, reading-kept-in, stands-on}
 use Rattle.actions.proofs.Outcomes.{told-none, told-then, area-on}
 use Rattle.actions.proofs.Reductions.{length-states, reduces-told, reduces-reading, reduces-states, reduces-stands, refuses-told}
+use Rattle.meaning.proofs.Kept.{apply-grows}
 use Rattle.applying.specs.Following.{marksOf, Place, place, applied, Way, StateFits, RulesFit, ToldBy, StateDone, RulesDone, endApplied, EndReady, EndDone}
 use Rattle.applying.proofs.Windows.{marks-same}
-use Rattle.applying.proofs.Rooms.{apply-grows, room-first, room-rest}
+use Rattle.applying.proofs.Rooms.{room-first, room-rest}
 
 -- The end: the shift, if there is one.
 end-is : (t : Table) (x : Term) (sh : Maybe ℕ) (r : Reading) (n : ℕ) → apply t x (shift sh) r n ≡ endApplied x sh r n

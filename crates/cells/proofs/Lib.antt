@@ -1,5 +1,4 @@
 -- The laws that callers cite: of cells in bytes, of stacks, of births; and of tests joined by `both`.
-pub mod Booleans
 pub mod Records
 pub mod Stacks
 pub mod Births

@@ -14,7 +14,7 @@ use Rattle.meaning.specs.Readings.{Entry, noEntry, holds, states}
 use Rattle.cells.specs.Pool.{cellSize, cellAt}
 use Rattle.cells.specs.Stacks.{Pool, entryAt, entriesOf, downFrom, linked, Linked, StatesBelow, StackIn}
 use Rattle.cells.specs.declared.Cell.{Cell}
-use Rattle.cells.proofs.Booleans.{both-left, both-right, both-true, both-false}
+use Rattle.meaning.proofs.Booleans.{both-left, both-right, both-true, both-false}
 
 -- The ways out of the test. A law takes the cell x that was read, and that it is the pool's.
 module _ (n m : ℕ) (p : Pool) where

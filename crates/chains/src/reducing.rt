@@ -1,6 +1,5 @@
 // One reduction of a simulated stack, with the refusals that it may meet.
 ghost use mathlib.Core.Path.{_≡_};
-ghost use mathlib.Core.List.{_∷_};
 ghost use Prim.Native.Nat.{_+_, _-_, _<_, _≤_};
 ghost use lib.ListN.{getD};
 ghost use Rattle.meaning.specs.TableFile.{tableOf};

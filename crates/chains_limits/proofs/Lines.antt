@@ -1,5 +1,5 @@
 -- A line of cells that was tested is a stack in its pool.
-use Prim.Native.Nat.{ℕ, _≤_, _*_}
+use Prim.Native.Nat.{ℕ, _≤_}
 use mathlib.Core.Path.{_≡_, sym, _∙_}
 use mathlib.Core.Bool.{Bool, true}
 use mathlib.Core.List.{List}
@@ -7,7 +7,7 @@ use lib.ListN.{length}
 use native.Mathlib.Omega.{arith}
 use Rattle.meaning.specs.declared.View.{View}
 use Rattle.cells.specs.Pool.{cellAt}
-use Rattle.cells.specs.Stacks.{linked, StackIn}
+use Rattle.cells.specs.Stacks.{linked}
 use Rattle.cells.proofs.Stacks.{linked-claim}
 use Rattle.table.specs.Answers.{Belongs}
 use Rattle.chains.specs.Filling.{StackAsks}

@@ -15,7 +15,7 @@ use Rattle.meaning.specs.TableRight.{tableOk}
 use Rattle.meaning.specs.declared.Refusal.{Refusal}
 use Rattle.meaning.specs.declared.Refusal.the-variants.{WrongTable, WrongState}
 use Rattle.meaning.specs.declared.View.{View}
-use Rattle.cells.proofs.Booleans.{both-left, both-right}
+use Rattle.meaning.proofs.Booleans.{both-left, both-right}
 use Rattle.state.specs.Check.{validState}
 use Rattle.state.specs.Layout.{stateLength, workLength, readingsAt}
 use Rattle.state.specs.Readings.{readingsFrom, readingsOf}

@@ -2,7 +2,7 @@
 use mathlib.Core.Path.{_≡_, refl, sym, ap, _∙_}
 use mathlib.Core.Bool.{Bool, true, false, not}
 use mathlib.Core.List.{List, [], _∷_}
-use Prim.Native.Nat.{ℕ, _+_, _<_, _≤_}
+use Prim.Native.Nat.{ℕ, _+_, _≤_}
 use native.Mathlib.Omega.{arith}
 use lib.Dec.{eqb, ltb, leb}
 use lib.ListN.{length}
@@ -10,14 +10,13 @@ use borrow.Author.Tests.{eq-eqb, ne-eqb, ltb-true, ltb-false, lt-ltb, le-ltb, le
 use Rattle.meaning.specs.Answers.{number, stackNumbers}
 use Rattle.meaning.specs.Basics.{if_then_else_, nothing, just}
 use Rattle.meaning.specs.Calls.{State, checkState, StackCall, stackRefused, stackRight, stackCall}
-use Rattle.meaning.specs.Readings.{Reading}
 use Rattle.meaning.specs.TableRight.{tableOk}
-use Rattle.meaning.specs.declared.Entry.{Entry as SeenEntry}
 use Rattle.meaning.specs.declared.Refusal.{Refusal}
 use Rattle.meaning.specs.declared.Refusal.the-variants.{WrongTable}
 use Rattle.meaning.specs.declared.StackAnswer.{StackAnswer}
 use Rattle.meaning.specs.declared.StackAnswer.the-variants.{Read, Refused}
 use Rattle.meaning.specs.declared.StackNumbers.{StackNumbers}
+use Rattle.meaning.proofs.Booleans.{not-no, not-yes}
 use Rattle.meaning.proofs.Settled.{number-range}
 use Rattle.state.specs.Layout.{stateLength}
 use Rattle.promises.specs.Buffers.{listsRight, stateFor}
@@ -77,14 +76,6 @@ few-left table state = at (tableOk table) (stateFor table state) refl
     at true (just rs) e = found-holds table state rs e .facts .few
 
 -- The count so far: the readings below it are there; the first that is not ends it.
-not-no : (b : Bool) → not b ≡ false → b ≡ true
-not-no true e = refl
-not-no false e = sym e
-
-not-yes : (b : Bool) → not b ≡ true → b ≡ false
-not-yes true e = sym e
-not-yes false e = refl
-
 module _ (left i : ℕ) (h : i ≤ left) (b : Bool) (e : b ≡ ltb i left) where
   pub counted-on : not b ≡ false → i + 1 ≤ left
   counted-on f = let l = ltb-true i left (sym e ∙ not-no b f) in omega arith

@@ -9,17 +9,17 @@ use borrow.Author.Tests.{le-leb}
 use Rattle.meaning.specs.Calls.{feedCall}
 use Rattle.meaning.specs.declared.ErrorRecord.{ErrorRecord}
 use Rattle.meaning.specs.declared.Term.{Term}
+use Rattle.meaning.proofs.Booleans.{both-false}
 use Rattle.lists.specs.Filling.{stored, filled}
 use Rattle.state.specs.Readings.{usedOf}
 use Rattle.promises.specs.Buffers.{lengthsRight, feedLengths, stateFor}
 use Rattle.promises.specs.Calls.{feedOn, FeedPromise}
 use Rattle.covered.specs.Feeding.{RunPromise}
 use Rattle.covered.specs.declared.running.FeedRun.{FeedRun}
-use Rattle.covered.proofs.Stacks.{both-no}
 
 feed-short : (state work : List ℕ) (places : ℕ) → eqb places 32 ≡ false → feedLengths state work places ≡ false
 unfolding feedLengths
-feed-short state work places e = rw (e, both-no (lengthsRight state work))
+feed-short state work places e = rw (e, both-false (lengthsRight state work))
 
 kept-list : (table state : List ℕ) (x : Term) (ys : List ErrorRecord) → ys ≡ feedCall false table (stateFor table state) x ys (usedOf state) .errors
 unfolding feedCall

@@ -1,35 +1,31 @@
 -- The parts of the covered feed: check 5, the stages over the loaded cells, the commit and the gathered errors. Assumes nothing.
-use mathlib.Core.Path.{_≡_, refl, sym, ap, _∙_, subst}
+use mathlib.Core.Path.{_≡_, sym, ap, _∙_, subst}
 use mathlib.Core.Bool.{Bool, true, false}
 use mathlib.Core.List.{List}
-use Prim.Native.Nat.{ℕ, _+_, _*_, _<_, _≤_}
+use Prim.Native.Nat.{ℕ, _<_, _≤_}
 use native.Mathlib.Omega.{arith}
-use lib.Dec.{ltb, leb}
+use lib.Dec.{ltb}
 use lib.ListN.{length}
 use borrow.Author.Tests.{lt-ltb, le-ltb, le-leb, lt-leb}
 use Rattle.meaning.specs.Answers.{feedNumbers}
-use Rattle.meaning.specs.Basics.{if_then_else_, either}
+use Rattle.meaning.specs.Basics.{if_then_else_}
 use Rattle.meaning.specs.Calls.{wrongClass, wrongTerm}
-use Rattle.meaning.specs.Feeding.{First, refuses, settles, mustRecover, first, finish, feed}
+use Rattle.meaning.specs.Feeding.{first, finish, feed}
 use Rattle.meaning.specs.Outcome.{Fed, refusal}
 use Rattle.meaning.specs.Recovery.{recover}
-use Rattle.meaning.specs.Readings.{Reading}
-use Rattle.meaning.specs.TableFile.{Table, tableOf}
-use Rattle.meaning.specs.declared.ErrorRecord.{ErrorRecord}
+use Rattle.meaning.specs.TableFile.{tableOf}
 use Rattle.meaning.specs.declared.FeedAnswer.the-variants.{Done, NotTaken}
 use Rattle.meaning.specs.declared.Refusal.{Refusal}
 use Rattle.meaning.specs.declared.Term.{Term}
 use Rattle.meaning.specs.declared.View.{View}
-use Rattle.table.specs.Answers.{Belongs}
 use Rattle.lists.specs.declared.errors.Errors.{Errors}
 use Rattle.state.specs.Areas.{loaded, LoadReady}
-use Rattle.state.specs.Check.{validState}
-use Rattle.state.specs.Readings.{usedOf, readingsOf, resultsOf}
+use Rattle.state.specs.Readings.{usedOf, readingsOf}
 use Rattle.state.proofs.Loading.{length-loaded, loaded-cells}
 use Rattle.state.proofs.Valid.{count-few, used-few, all-stand}
 use Rattle.actions.specs.Errors.{errorsOf}
 use Rattle.actions.proofs.ErrorRecords.{length-errors}
-use Rattle.commit.specs.Committing.{Results, Committed, Commits}
+use Rattle.commit.specs.Committing.{Results, Commits}
 use Rattle.feeding.specs.Ending.{Holds, FirstReady, MustRecover, Settles, FirstIs, FedIs}
 use Rattle.feeding.specs.declared.Ended.{Ended}
 use Rattle.feeding.specs.declared.Fed.{Fed as FedCode}

@@ -6,7 +6,7 @@ use Prim.Native.Nat.{ℕ, _+_, _-_, _*_, _≤_}
 use native.Mathlib.Omega.{arith}
 use lib.Dec.{eqb}
 use lib.ListN.{length}
-use Rattle.meaning.specs.Answers.{done, notTaken, feedNumbers}
+use Rattle.meaning.specs.Answers.{feedNumbers}
 use Rattle.meaning.specs.Basics.{if_then_else_, isNil, just}
 use Rattle.meaning.specs.Calls.{State, FeedCall, feedRefused, feedEnded, feedRight, feedCall, wrongTerm, written}
 use Rattle.meaning.specs.Feeding.{feed}
@@ -24,11 +24,10 @@ use Rattle.meaning.specs.declared.FeedNumbers.{FeedNumbers}
 use Rattle.meaning.proofs.States.{states-kept}
 use Rattle.numbers.specs.Writing.{Agree}
 use Rattle.numbers.specs.Zeros.{zeros}
-use Rattle.cells.proofs.Booleans.{both-left}
+use Rattle.meaning.proofs.Booleans.{both-left}
 use Rattle.lists.specs.Filling.{filled}
-use Rattle.lists.specs.declared.errors.Errors.{Errors}
 use Rattle.state.specs.Check.{validState, StatesKnown}
-use Rattle.state.specs.Readings.{countOf, usedOf, readingsFrom, readingsOf, resultsOf}
+use Rattle.state.specs.Readings.{countOf, usedOf, readingsFrom, readingsOf}
 use Rattle.state.proofs.Valid.{known}
 use Rattle.commit.specs.Committing.{Committed}
 use Rattle.commit.proofs.After.{state-after}

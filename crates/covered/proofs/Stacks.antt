@@ -9,7 +9,7 @@ use lib.ListN.{length, take, drop, getD, set, replicate, length-set, length-map,
 use lib.Seq.{sets, length-sets, sets-eq, take-at, getD-take, take-suc-set}
 use borrow.Author.Tests.{eqb-true, le-leb, lt-leb}
 use Rattle.meaning.specs.Answers.{stackNumbers}
-use Rattle.meaning.specs.Basics.{both, isNil}
+use Rattle.meaning.specs.Basics.{isNil}
 use Rattle.meaning.specs.Calls.{StackCall, stackRight, stackCall, stackRefused, stackRead, noReading, written}
 use Rattle.meaning.specs.Readings.{seen}
 use Rattle.meaning.specs.declared.Entry.{Entry as SeenEntry}
@@ -20,7 +20,7 @@ use Rattle.meaning.specs.declared.View.{View}
 use Rattle.cells.specs.Pool.{cellSize, cellAt}
 use Rattle.cells.specs.Stacks.{Pool, entryAt, entriesOf, Linked, StackIn}
 use Rattle.cells.specs.declared.Cell.{Cell}
-use Rattle.cells.proofs.Booleans.{both-left}
+use Rattle.meaning.proofs.Booleans.{both-left, both-false}
 use Rattle.cells.proofs.Stacks.{length-entries}
 use Rattle.lists.specs.Filling.{noEntry, stored, filled}
 use Rattle.lists.specs.declared.entries.Entries.{Entries}
@@ -249,13 +249,9 @@ module _ (table state : List ℕ) (number places : ℕ) (b : Bool) (e : b ≡ li
   stack-long f p = rw (sym e ∙ f) p
 
 -- The public call: what the covered one read goes into the lent list, which stays as it is where it has another length.
-pub both-no : (a : Bool) → both a false ≡ false
-both-no true = refl
-both-no false = refl
-
 lists-short : (state : List ℕ) (places : ℕ) → eqb places 64 ≡ false → listsRight state places ≡ false
 unfolding listsRight
-lists-short state places e = rw (e, both-no (eqb (length state) 18532))
+lists-short state places e = rw (e, both-false (eqb (length state) 18532))
 
 kept-list : (table state : List ℕ) (number : ℕ) (ys : List SeenEntry) → ys ≡ stackOn false table state number ys .entries
 unfolding stackCall

@@ -1,16 +1,15 @@
 -- What the end of a pass leaves in the work area, and which end it comes to. Assumes nothing.
-use Prim.Native.Nat.{ℕ, zero, suc, _+_, _*_, _<_, _≤_}
+use Prim.Native.Nat.{ℕ, zero, suc, _+_, _≤_}
 use native.Mathlib.Omega.{arith}
-use mathlib.Core.Path.{_≡_, refl, sym, ap, _∙_}
+use mathlib.Core.Path.{_≡_, refl, sym, _∙_}
 use mathlib.Core.Bool.{Bool, true, false, not}
-use mathlib.Core.List.{List, [], _∷_, _++_, map, reverse}
+use mathlib.Core.List.{List, reverse}
 use lib.Dec.{eqb}
 use lib.ListN.{length, length-reverse}
 use borrow.Author.Tests.{eq-eqb, ne-eqb}
 use Rattle.meaning.specs.Basics.{if_then_else_, either, isNil}
 use Rattle.meaning.specs.Readings.{Reading}
-use Rattle.meaning.specs.Applying.{unplanned}
-use Rattle.meaning.specs.Feeding.{First, settles, mustRecover, someTook, noneTook}
+use Rattle.meaning.specs.Feeding.{settles, mustRecover, someTook, noneTook}
 use Rattle.meaning.specs.TableFile.{Table}
 use Rattle.state.specs.Layout.{resultsAt, leftAt}
 use Rattle.state.specs.Readings.{readingsFrom, resultsOf, AllStand}

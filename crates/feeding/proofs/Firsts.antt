@@ -1,33 +1,28 @@
 -- The first planning: the pass over a state, and what it comes to by meaning's rule. Assumes nothing.
-use Prim.Native.Nat.{ℕ, zero, suc, _+_, _*_, _<_, _≤_}
+use Prim.Native.Nat.{ℕ, _+_, _<_, _≤_}
 use native.Mathlib.Omega.{arith}
 use mathlib.Core.Path.{_≡_, refl, sym, ap, _∙_, subst}
 use mathlib.Core.Bool.{Bool, true, false}
 use mathlib.Core.List.{List, [], _∷_, _++_, reverse, append-nil, append-assoc}
-use lib.ListN.{length}
 use Rattle.meaning.specs.Basics.{if_then_else_}
 use Rattle.meaning.specs.Readings.{Reading, states}
 use Rattle.meaning.specs.TableFile.{Table, tableOf}
 use Rattle.meaning.specs.Walk.{Walk, Walked, refused, walked, plan, ends, chains}
 use Rattle.meaning.specs.Applying.{Applied, apply, joined, nothingApplied}
-use Rattle.meaning.specs.Feeding.{First as Meant, refuses, settles, mustRecover, first}
+use Rattle.meaning.specs.Feeding.{First as Meant, refuses, first}
 use Rattle.meaning.specs.declared.Refusal.{Refusal}
 use Rattle.meaning.specs.declared.Term.{Term}
 use Rattle.meaning.specs.declared.View.{View}
-use Rattle.meaning.proofs.Trees.{walk-is, ends-chain, no-chain}
+use Rattle.meaning.proofs.Trees.{ends-chain, no-chain}
 use Rattle.table.specs.Answers.{Belongs}
-use Rattle.state.specs.Layout.{readingsAt, resultsAt, leftAt}
-use Rattle.state.specs.Readings.{countOf, usedOf, readingsFrom, readingsOf, resultsOf, AllStand}
+use Rattle.state.specs.Readings.{countOf, usedOf, readingsFrom, readingsOf}
 use Rattle.state.proofs.Lists.{all-stand-kept}
-use Rattle.actions.specs.Errors.{errorsOf, errorsFrom}
+use Rattle.actions.specs.Errors.{errorsFrom}
 use Rattle.actions.specs.Telling.{Area}
-use Rattle.actions.specs.declared.Counts.{Counts}
-use Rattle.taking.specs.Taking.{Paced}
-use Rattle.taking.specs.Stages.{madeOf}
 use Rattle.taking.specs.declared.SoFar.{SoFar}
 use Rattle.feeding.specs.OnePass.{Pass as MeantPass, stopped, passed, onWalk, onePass, firstOfPass}
-use Rattle.feeding.specs.Passing.{Loaded, PassStands, PassReady, Stops, Passes, PassIs, passFrom}
-use Rattle.feeding.specs.Ending.{Holds, EndReady, EndsWith, Waits, SettledIs, FirstReady, passOver, MustRecover, Settles, FirstIs}
+use Rattle.feeding.specs.Passing.{PassReady, Stops, Passes, PassIs, passFrom}
+use Rattle.feeding.specs.Ending.{EndReady, EndsWith, Waits, SettledIs, FirstReady, passOver, MustRecover, Settles, FirstIs}
 use Rattle.feeding.specs.declared.Ended.{Ended}
 use Rattle.feeding.specs.declared.First.{First}
 use Rattle.feeding.specs.declared.First.the-variants as at-first

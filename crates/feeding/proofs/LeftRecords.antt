@@ -2,7 +2,7 @@
 use Prim.Native.Nat.{ℕ, zero, suc, _+_, _-_, _*_, _<_, _≤_}
 use native.Mathlib.Omega.{arith}
 use mathlib.Core.Path.{_≡_, refl, sym, ap, _∙_, subst}
-use mathlib.Core.Logic.{inl, inr}
+use mathlib.Core.Logic.{inr}
 use mathlib.Core.List.{List, [], _∷_, _++_, map, reverse, reverse-append, append-assoc, append-nil}
 use lib.ListN.{length, length-append}
 use Rattle.meaning.specs.Readings.{Reading}
@@ -10,7 +10,7 @@ use Rattle.meaning.specs.Applying.{unplanned}
 use Rattle.meaning.specs.declared.ErrorRecord.{ErrorRecord}
 use Rattle.numbers.specs.Writing.{Agree}
 use Rattle.cells.specs.Pool.{cellSize, cellAt}
-use Rattle.cells.specs.Stacks.{Pool, entriesOf}
+use Rattle.cells.specs.Stacks.{entriesOf}
 use Rattle.cells.specs.declared.Cell.{Cell}
 use Rattle.cells.proofs.Records.{cell-agree}
 use Rattle.cells.proofs.Stacks.{linked-top}
@@ -18,7 +18,7 @@ use Rattle.state.specs.Layout.{slotSize, leftAt, errorsAt}
 use Rattle.state.specs.Readings.{slotAt, heightAt, topAt, readingAt, readingsFrom, AllStand}
 use Rattle.state.specs.declared.Slot.{Slot}
 use Rattle.state.proofs.Slots.{slot-agree}
-use Rattle.state.proofs.Lists.{length-readings, readings-last, readings-kept, all-stand-kept, stand-rest}
+use Rattle.state.proofs.Lists.{readings-last, readings-kept, all-stand-kept}
 use Rattle.actions.specs.Errors.{errorSize, errorAt, putError, errorsOf}
 use Rattle.actions.proofs.ErrorRecords.{length-putError, agree-putError, error-agree, error-back, errors-last, errors-kept}
 use Rattle.feeding.specs.Unplanned.{UnplannedReady, UnplannedDone}

@@ -1,37 +1,28 @@
 -- One reading of a pass: it stands in the work area, and it takes the term or goes to the readings left. Assumes nothing.
-use Prim.Native.Nat.{ℕ, zero, suc, _+_, _-_, _*_, _<_, _≤_}
+use Prim.Native.Nat.{ℕ, _+_, _-_, _*_, _<_, _≤_}
 use native.Mathlib.Omega.{arith}
-use mathlib.Core.Path.{_≡_, refl, sym, ap, _∙_, subst}
+use mathlib.Core.Path.{_≡_, ap, _∙_}
 use mathlib.Core.Logic.{_⊎_, inl, inr, ⊎-elim}
-use mathlib.Core.List.{List, [], _∷_, _++_, reverse}
-use lib.ListN.{length}
+use mathlib.Core.List.{List}
 use Rattle.meaning.specs.Readings.{Reading}
-use Rattle.meaning.specs.TableFile.{Table}
-use Rattle.meaning.specs.declared.Term.{Term}
 use Rattle.meaning.specs.declared.View.{View}
-use Rattle.meaning.specs.declared.ErrorRecord.{ErrorRecord}
 use Rattle.cells.specs.Pool.{cellAt}
-use Rattle.cells.specs.Stacks.{entriesOf}
-use Rattle.cells.specs.declared.Cell.{Cell}
 use Rattle.cells.proofs.Records.{cell-agree}
-use Rattle.cells.proofs.Stacks.{linked-top}
 use Rattle.cells.proofs.Births.{entries-kept, linked-kept}
-use Rattle.state.specs.Layout.{slotSize, readingsAt, resultsAt, leftAt, errorsAt}
-use Rattle.state.specs.Readings.{slotAt, putSlot, topAt, heightAt, readingOf, readingAt, resultsOf, usedOf, StandsAt, AllStand, ListIn}
+use Rattle.state.specs.Layout.{readingsAt, resultsAt}
+use Rattle.state.specs.Readings.{slotAt, putSlot, topAt, heightAt, readingAt, usedOf, StandsAt, ListIn}
 use Rattle.state.specs.declared.Slot.{Slot}
 use Rattle.state.proofs.Slots.{length-putSlot, agree-putSlot, slot-agree}
-use Rattle.state.proofs.Lists.{readings-kept, all-stand-kept, readings-added, stands-added}
+use Rattle.state.proofs.Lists.{readings-kept, all-stand-kept}
 use Rattle.actions.specs.Acting.{readingIn}
-use Rattle.actions.specs.Errors.{errorsOf}
 use Rattle.actions.specs.Telling.{Area, Stands}
 use Rattle.actions.specs.declared.Counts.{Counts}
 use Rattle.actions.specs.declared.Top.{Top}
 use Rattle.actions.proofs.ErrorRecords.{error-agree, errors-kept}
-use Rattle.taking.specs.Taking.{topOf, Paced, TakeReady, Takes, Leaves}
-use Rattle.taking.specs.Stages.{madeOf, Further}
+use Rattle.taking.specs.Taking.{topOf, TakeReady}
+use Rattle.taking.specs.Stages.{madeOf}
 use Rattle.taking.specs.declared.SoFar.{SoFar}
-use Rattle.taking.proofs.Stages.{further-takes, further-leaves}
-use Rattle.feeding.specs.Passing.{Loaded, PassStands, PassReady}
+use Rattle.feeding.specs.Passing.{PassReady}
 
 -- A slot written to another list keeps a list, its area and the error records.
 module _ (list : ℕ) (w : List ℕ) (n : Counts) (a : Area list w n) (at j : ℕ) (x : Slot) (low : 41824 ≤ at) (high : at + 6 * j + 6 ≤ 42016) (apart : (at + 6 * j + 6 ≤ list) ⊎ (list + 96 ≤ at + 6 * j)) where

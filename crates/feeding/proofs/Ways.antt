@@ -1,15 +1,15 @@
 -- The ways out of a pass, and what its recursion asks. Assumes nothing.
-use Prim.Native.Nat.{ℕ, zero, suc, _+_, _-_, _*_, _<_, _≤_}
+use Prim.Native.Nat.{ℕ, _+_, _-_, _*_, _<_, _≤_}
 use native.Mathlib.Omega.{arith}
-use mathlib.Core.Path.{_≡_, refl, sym, ap, _∙_, subst}
-use mathlib.Core.Logic.{inl, inr}
+use mathlib.Core.Path.{_≡_, sym, ap, _∙_, subst}
+use mathlib.Core.Logic.{inr}
 use mathlib.Core.Bool.{Bool, true, false}
 use mathlib.Core.List.{List, [], _∷_, _++_, reverse}
 use lib.ListN.{length}
 use Rattle.meaning.specs.Basics.{if_then_else_}
-use Rattle.meaning.specs.Readings.{Reading, Entry, states}
+use Rattle.meaning.specs.Readings.{Reading, states}
 use Rattle.meaning.specs.TableFile.{Table, tableOf}
-use Rattle.meaning.specs.Walk.{Walk, Walked, refused, walked, plan, ends}
+use Rattle.meaning.specs.Walk.{Walk, Walked, walked, plan, ends}
 use Rattle.meaning.specs.Applying.{Applied, apply, joined}
 use Rattle.meaning.specs.declared.Refusal.{Refusal}
 use Rattle.meaning.specs.declared.Term.{Term}
@@ -20,7 +20,7 @@ use Rattle.cells.proofs.Births.{entries-kept, linked-kept}
 use Rattle.cells.proofs.Records.{cell-agree}
 use Rattle.cells.proofs.Stacks.{linked-top, linked-top-height}
 use Rattle.state.specs.Layout.{slotSize, readingsAt, resultsAt, leftAt}
-use Rattle.state.specs.Readings.{slotAt, putSlot, topAt, heightAt, readingOf, readingAt, readingsFrom, resultsOf, usedOf, AllStand}
+use Rattle.state.specs.Readings.{slotAt, putSlot, topAt, heightAt, readingOf, readingsFrom, resultsOf, usedOf, AllStand}
 use Rattle.state.specs.declared.Slot.{Slot}
 use Rattle.state.proofs.Slots.{length-putSlot, agree-putSlot}
 use Rattle.state.proofs.Lists.{readings-kept, all-stand-kept, readings-added, stands-added}
@@ -30,8 +30,8 @@ use Rattle.taking.specs.Taking.{topOf, planned, Refuses, Takes, Leaves}
 use Rattle.taking.specs.Stages.{madeOf, Further}
 use Rattle.taking.specs.declared.SoFar.{SoFar}
 use Rattle.taking.proofs.Stages.{further-takes, made-takes, further-leaves, made-leaves}
-use Rattle.feeding.specs.OnePass.{Pass as Meant, stopped, passed, onWalk, onePass}
-use Rattle.feeding.specs.Passing.{Loaded, PassStands, PassReady, Stops, Passes, PassIs, passFrom}
+use Rattle.feeding.specs.OnePass.{Pass as Meant, onWalk, onePass}
+use Rattle.feeding.specs.Passing.{PassStands, PassReady, Stops, Passes, PassIs, passFrom}
 use Rattle.feeding.specs.declared.Pass.{Pass}
 use Rattle.feeding.specs.declared.Pass.the-variants as pass
 use Rattle.feeding.proofs.LeftRecords.{reverse-last}

@@ -1,8 +1,8 @@
 -- The ways out of the questions. Assumes nothing.
-use mathlib.Core.Path.{_≡_, refl, sym, ap, _∙_}
+use mathlib.Core.Path.{_≡_, sym, ap, _∙_}
 use mathlib.Core.Bool.{Bool, true, false}
 use mathlib.Core.List.{List}
-use Prim.Native.Nat.{ℕ, zero, suc, _<_, _≤_}
+use Prim.Native.Nat.{ℕ, _<_, _≤_}
 use native.Mathlib.Omega.{arith}
 use lib.ListN.{length, drop, length-drop}
 use lib.Seq.{length-take-le}
@@ -19,7 +19,7 @@ use Rattle.meaning.specs.declared.Refusal.the-variants.{WrongLength, WrongArgum
 use Rattle.meaning.specs.declared.View.{View}
 use Rattle.numbers.specs.Zeros.{zeros}
 use Rattle.questions.specs.Asking.{AsksState}
-use Rattle.state.specs.Layout.{readingsAt, marksAt}
+use Rattle.state.specs.Layout.{marksAt}
 use Rattle.state.specs.Readings.{readingsFrom, readingsOf, countOf}
 use Rattle.promises.specs.Buffers.{lengthsRight, stateFor}
 use Rattle.checks.specs.Checks.{foundOf}

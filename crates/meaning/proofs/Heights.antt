@@ -12,7 +12,7 @@ use Rattle.meaning.specs.Chains.{recordAt}
 use Rattle.meaning.specs.Walk.{Walk, shift, reduce, Walked, refused, walked, endChain, walkRules, walkState, walkFrom}
 use Rattle.meaning.specs.declared.Refusal.the-variants.{TooHigh, ChainTooLong, TooManyReadings}
 use Rattle.meaning.proofs.Trees.{refused-not, if-not, if-yes, reduces, walkOf}
-use Rattle.meaning.proofs.Tools.{is-false}
+use Rattle.meaning.proofs.Booleans.{is-false}
 
 -- a walk from height h that nowhere goes above 64
 abbrev pub Low : Table → Walk → ℕ → Type 0

@@ -1,19 +1,12 @@
 -- What a list of readings holds is what its readings have: P holds of every entry's identity if it holds of every identity that is held.
 use Prim.Native.Nat.{ℕ}
-use mathlib.Core.Path.{_≡_, refl, ap}
-use mathlib.Core.Bool.{Bool, true, false}
+use mathlib.Core.Path.{_≡_}
+use mathlib.Core.Bool.{true}
 use mathlib.Core.List.{List, [], _∷_}
 use lib.Dec.{eqb, eqb-refl}
-use Rattle.meaning.specs.Basics.{either, AllOf}
+use Rattle.meaning.specs.Basics.{AllOf}
 use Rattle.meaning.specs.Readings.{Entry, Reading, holds, heldBy}
-use Rattle.meaning.proofs.Tools.{is-true}
-
-either-left : (a b : Bool) → a ≡ true → either a b ≡ true
-either-left a b e = ap (λ (c : Bool). either c b) e
-
-either-right : (a b : Bool) → b ≡ true → either a b ≡ true
-either-right true b e = refl
-either-right false b e = e
+use Rattle.meaning.proofs.Booleans.{is-true, either-left, either-right}
 
 module _ (P : ℕ → Type 0) where
   own-stack : (s : List Entry) → ((b : ℕ) → holds s b ≡ true → P b) → AllOf (λ (e : Entry). P (e .born)) s

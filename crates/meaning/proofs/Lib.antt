@@ -1,4 +1,5 @@
 -- Theorems about the definitions: docs/DECISIONS.md lists them.
+pub mod Booleans
 pub mod Tools
 pub mod Trees
 pub mod Renamed

@@ -12,7 +12,8 @@ use Rattle.meaning.specs.declared.Rule.{Rule}
 use Rattle.meaning.specs.declared.Term.{Term}
 use Rattle.meaning.specs.declared.ErrorRecord.{ErrorRecord}
 use Rattle.meaning.proofs.Renamed.{act-ren, reduced-ren, refused-ren}
-use Rattle.meaning.proofs.Tools.{IsTrue, either-false, map-append}
+use Rattle.meaning.proofs.Booleans.{IsTrue, either-false}
+use Rattle.meaning.proofs.Tools.{map-append}
 
 -- the readings that a walk gives; a dead end gives none by itself
 abbrev pub got : Table → Term → Walk → Reading → List Reading

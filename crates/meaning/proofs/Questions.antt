@@ -19,7 +19,7 @@ use Rattle.meaning.specs.declared.Refusal.{Refusal}
 use Rattle.meaning.specs.declared.Refusal.the-variants.{ReachesStart, TooHigh, ChainTooLong, WalkTooLong, TooManyReadings}
 use Rattle.meaning.specs.declared.QuestionAnswer.{QuestionAnswer}
 use Rattle.meaning.specs.declared.QuestionAnswer.the-variants.{Yes, No, Refused}
-use Rattle.meaning.proofs.Tools.{is-false}
+use Rattle.meaning.proofs.Booleans.{is-false}
 
 abbrev From6To10 : Refusal → Type 0
 From6To10 k = (6 ≤ number k) × (number k ≤ 10)

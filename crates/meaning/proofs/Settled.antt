@@ -20,7 +20,8 @@ use Rattle.meaning.specs.declared.Refusal.the-variants.{WrongLength, Wro
 use Rattle.meaning.proofs.Trees.{treeFrom, Is, walk-is, walk-again}
 use Rattle.meaning.proofs.Plain.{got, errs, got-none, errs-none, apply-plain}
 use Rattle.meaning.proofs.Renamed.{states-ren, unplanned-all}
-use Rattle.meaning.proofs.Tools.{IsTrue, map-append, map-reverse, nil-map}
+use Rattle.meaning.proofs.Booleans.{IsTrue}
+use Rattle.meaning.proofs.Tools.{map-append, map-reverse, nil-map}
 
 -- a refusal's number is from 1 to 11
 pub number-range : (k : Refusal) → (1 ≤ number k) × (number k ≤ 11)

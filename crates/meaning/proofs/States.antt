@@ -13,17 +13,13 @@ use Rattle.meaning.specs.Feeding.{feed}
 use Rattle.meaning.specs.Bounds.{StatesBelow}
 use Rattle.meaning.specs.declared.Counts.{Counts}
 use Rattle.meaning.specs.declared.Term.{Term}
-use Rattle.meaning.proofs.Tools.{IsTrue}
+use Rattle.meaning.proofs.Booleans.{IsTrue, both-parts}
 use Rattle.meaning.proofs.Leads.{TargetsIn}
 use Rattle.meaning.proofs.Kept.{feed-keeps}
 
-both-true : (a b : Bool) → both a b ≡ true → (a ≡ true) × (b ≡ true)
-both-true true b e = (refl, e)
-both-true false b e = absurd (subst IsTrue (sym e) tt)
-
 every-true : {A : Type 0} (p : A → Bool) (l : List A) → every p l ≡ true → AllOf (λ (a : A). p a ≡ true) l
 every-true p [] e = tt
-every-true p (a ∷ l) e = let h = both-true (p a) (every p l) e in (h .0, every-true p l (h .1))
+every-true p (a ∷ l) e = let h = both-parts (p a) (every p l) e in (h .0, every-true p l (h .1))
 
 -- what is found is one of the list, or none
 find-all : {A B : Type 0} (fits : A → Bool) (out : A → B) (none : B) (Q : A → Type 0) (S : B → Type 0) → ((a : A) → Q a → S (out a)) → S none → (l : List A) → AllOf Q l → S (find fits out none l)
@@ -47,7 +43,7 @@ just-below m to to′ e f = subst (λ (k : ℕ). k < m) (ap target f) (below to 
 
 action-below : (c : Counts) (a : ActionRecord) → actionRight c a ≡ true → (to : ℕ) → a .shift ≡ just to → to < c .states
 unfolding actionRight
-action-below c a e to f = at (a .shift) (both-true (shiftRight c (a .shift)) (rulesBelow c (a .rules)) (both-true leads full (both-true key (both leads full) e .1) .0) .0) f
+action-below c a e to f = at (a .shift) (both-parts (shiftRight c (a .shift)) (rulesBelow c (a .rules)) (both-parts leads full (both-parts key (both leads full) e .1) .0) .0) f
   where
     key : Bool
     key = both (ltb (a .state) (c .states)) (ltb (a .class) (c .classes))
@@ -64,7 +60,7 @@ action-below c a e to f = at (a .shift) (both-true (shiftRight c (a .shift)) (ru
 
 goto-below : (c : Counts) (g : GotoRecord) → gotoRight c g ≡ true → (to : ℕ) → just (g .target) ≡ just to → to < c .states
 unfolding gotoRight
-goto-below c g e to f = just-below (c .states) (g .target) to (both-true (ltb (g .nonterminal) (c .nonterminals)) (ltb (g .target) (c .states)) (both-true (ltb (g .state) (c .states)) (both (ltb (g .nonterminal) (c .nonterminals)) (ltb (g .target) (c .states))) e .1) .1) f
+goto-below c g e to f = just-below (c .states) (g .target) to (both-parts (ltb (g .nonterminal) (c .nonterminals)) (ltb (g .target) (c .states)) (both-parts (ltb (g .state) (c .states)) (both (ltb (g .nonterminal) (c .nonterminals)) (ltb (g .target) (c .states))) e .1) .1) f
 
 -- every record of a right field is right
 field-right : {X : Type 0} (F : Format X) (e low at : ℕ) → fieldRight F e low at ≡ true → AllOf (λ (x : X). F .right x ≡ true) (map (F .decode) (places (F .size) (e - at) at e))
@@ -73,15 +69,15 @@ field-right F e low at h =
     let ps = places (F .size) (e - at) at e in
     let records = map (F .decode) ps in
     every-true (F .right) records
-    (both-true (every (F .right) records) (ascends low (map (keyOf F) records))
-    (both-true (every (fits F e) ps) (both (every (F .right) records) (ascends low (map (keyOf F) records))) h .1) .0)
+    (both-parts (every (F .right) records) (ascends low (map (keyOf F) records))
+    (both-parts (every (fits F e) ps) (both (every (F .right) records) (ascends low (map (keyOf F) records))) h .1) .0)
 
 module _ (s : List ℕ) (ok : tableOk s ≡ true) where
   right : contentRight s (viewOf s) ≡ true
   unfolding tableOk
   right =
-      both-true (contentRight s (viewOf s)) (shifts (actionOf (tableOf s) 0 startClass .shift))
-      (both-true (frameRight s (viewOf s)) (both (contentRight s (viewOf s)) (shifts (actionOf (tableOf s) 0 startClass .shift))) ok .1) .0
+      both-parts (contentRight s (viewOf s)) (shifts (actionOf (tableOf s) 0 startClass .shift))
+      (both-parts (frameRight s (viewOf s)) (both (contentRight s (viewOf s)) (shifts (actionOf (tableOf s) 0 startClass .shift))) ok .1) .0
 
   both-fields : (fieldRight (actionFormat s (viewOf s .counts)) (viewOf s .actions .end) 0 (viewOf s .actions .at) ≡ true)
       × (fieldRight (gotoFormat s (viewOf s .counts)) (viewOf s .gotos .end) 0 (viewOf s .gotos .at) ≡ true)
@@ -90,7 +86,7 @@ module _ (s : List ℕ) (ok : tableOk s ≡ true) where
       let v = viewOf s in
       let actions = fieldRight (actionFormat s (v .counts)) (v .actions .end) 0 (v .actions .at) in
       let gotos = fieldRight (gotoFormat s (v .counts)) (v .gotos .end) 0 (v .gotos .at) in
-      both-true actions gotos (both-true (every (ruleRight (v .counts)) (rulesFrom (v .counts .rules) s (v .rules .at))) (both actions gotos) right .1)
+      both-parts actions gotos (both-parts (every (ruleRight (v .counts)) (rulesFrom (v .counts .rules) s (v .rules .at))) (both actions gotos) right .1)
 
   -- Every target in a right table is one of its states.
   pub targets-below : TargetsIn (λ to. to < tableOf s .counts .states) (tableOf s)
@@ -113,8 +109,8 @@ module _ (s : List ℕ) (ok : tableOk s ≡ true) where
     where
       shift-there : shifts (actionOf (tableOf s) 0 startClass .shift) ≡ true
       shift-there =
-          both-true (contentRight s (viewOf s)) (shifts (actionOf (tableOf s) 0 startClass .shift))
-          (both-true (frameRight s (viewOf s)) (both (contentRight s (viewOf s)) (shifts (actionOf (tableOf s) 0 startClass .shift))) ok .1) .1
+          both-parts (contentRight s (viewOf s)) (shifts (actionOf (tableOf s) 0 startClass .shift))
+          (both-parts (frameRight s (viewOf s)) (both (contentRight s (viewOf s)) (shifts (actionOf (tableOf s) 0 startClass .shift))) ok .1) .1
 
       at : (sh : Maybe ℕ) → actionOf (tableOf s) 0 startClass .shift ≡ sh → shifts (actionOf (tableOf s) 0 startClass .shift) ≡ true → target (actionOf (tableOf s) 0 startClass .shift) < tableOf s .counts .states
       at nothing e f = absurd (subst (λ (m : Maybe ℕ). shifts m ≡ true → ⊥) (sym e) (λ g. subst IsTrue (sym g) tt) f)

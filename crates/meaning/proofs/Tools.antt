@@ -1,31 +1,10 @@
--- Laws about tests and lists that several proofs cite.
+-- Laws about lists that several proofs cite.
 use Prim.Native.Nat.{suc, _+_}
-use mathlib.Core.Path.{_≡_, refl, sym, ap, subst}
-use mathlib.Core.Bool.{Bool, true, false, not}
+use mathlib.Core.Path.{_≡_, refl, ap}
 use mathlib.Core.List.{List, [], _∷_, _++_, map, reverseAux}
-use lib.Dec.{T}
 use lib.ListN.{length}
 use native.Mathlib.Omega.{arith}
-use Rattle.meaning.specs.Basics.{either, isNil, AllOf}
-
--- Tests.
-
-abbrev pub IsTrue : Bool → Type 0
-IsTrue true = Unit {0}
-IsTrue false = ⊥
-
-pub is-true : (b : Bool) → T b → b ≡ true
-is-true true h = refl
-is-true false h = absurd h
-
-pub is-false : {b : Bool} → b ≡ false → T (not b)
-is-false e = subst (λ (b : Bool). T (not b)) (sym e) tt
-
-pub either-false : (a b : Bool) → either a b ≡ false → (a ≡ false) × (b ≡ false)
-either-false true b e = absurd (subst IsTrue e tt)
-either-false false b e = (refl, e)
-
--- Lists.
+use Rattle.meaning.specs.Basics.{isNil, AllOf}
 
 module _ {A B : Type 0} (f : A → B) where
   pub map-append : (l m : List A) → map f (l ++ m) ≡ map f l ++ map f m

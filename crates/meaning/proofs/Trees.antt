@@ -14,7 +14,7 @@ use Rattle.meaning.specs.Walk.{Walk, shift, reduce, Walked, refused, wal
 use Rattle.meaning.specs.declared.Rule.{Rule}
 use Rattle.meaning.specs.declared.Refusal.{Refusal}
 use Rattle.meaning.specs.declared.Refusal.the-variants.{ReachesStart, TooHigh, ChainTooLong, WalkTooLong, TooManyReadings}
-use Rattle.meaning.proofs.Tools.{IsTrue, is-true, is-false, either-false}
+use Rattle.meaning.proofs.Booleans.{IsTrue, is-true, is-false, either-false}
 
 abbrev pub treeStep : Maybe ℕ → ℕ → (ℕ → Walk) → Walk → Walk
 treeStep nothing k deeper beside = beside

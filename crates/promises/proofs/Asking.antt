@@ -5,10 +5,10 @@ use mathlib.Core.Path.{_≡_, refl, sym, ap, ap₂, _∙_}
 use mathlib.Core.Bool.{Bool, true, false}
 use mathlib.Core.List.{List, [], _∷_}
 use mathlib.Core.Logic.{_⊎_, inl, inr}
-use lib.Dec.{leb, ltb}
+use lib.Dec.{leb}
 use lib.ListN.{length, getD}
 use Rattle.meaning.specs.Answers.{number, questionNumbers}
-use Rattle.meaning.specs.Basics.{if_then_else_, either, isNil, just, AllOf}
+use Rattle.meaning.specs.Basics.{if_then_else_, isNil, just, AllOf}
 use Rattle.meaning.specs.Calls.{State, checked, wrongClass, takesRight, takesCall, canEndCall, canRecoverCall, StackCall, noReading, stackRefused, stackRead, stackRight, stackCall}
 use Rattle.meaning.specs.Questions.{takes, canEnd, canRecover}
 use Rattle.meaning.specs.Readings.{Reading}

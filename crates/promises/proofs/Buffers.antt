@@ -13,7 +13,7 @@ use Rattle.meaning.specs.Calls.{State, written}
 use Rattle.meaning.specs.Limits.{maxHeight, maxErrors}
 use Rattle.meaning.specs.Readings.{Reading}
 use Rattle.meaning.specs.TableFile.{tableOf}
-use Rattle.cells.proofs.Booleans.{both-left, both-right, both-true}
+use Rattle.meaning.proofs.Booleans.{both-left, both-right, both-true}
 use Rattle.state.specs.Check.{validState, Known}
 use Rattle.state.specs.Layout.{stateLength, workLength}
 use Rattle.state.specs.Readings.{usedOf, readingsOf}

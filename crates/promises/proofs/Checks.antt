@@ -17,12 +17,9 @@ use Rattle.meaning.specs.declared.Refusal.{Refusal}
 use Rattle.meaning.specs.declared.Refusal.the-variants.{WrongLength, WrongTable, WrongState, Consumed, WrongArgument}
 use Rattle.meaning.specs.declared.Term.{Term}
 use Rattle.meaning.proofs.Settled.{number-range}
-use Rattle.meaning.proofs.Tools.{IsTrue}
+use Rattle.meaning.proofs.Booleans.{no-false}
 use Rattle.promises.specs.Claims.{PassedCheck}
 use Rattle.promises.proofs.Refusals.{feed-ranged}
-
-pub no-false : {A : Type 0} → false ≡ true → A
-no-false e = absurd (subst IsTrue (sym e) tt)
 
 abbrev Found : State → Type 0
 Found nothing = ⊥

@@ -9,18 +9,9 @@ use Rattle.meaning.specs.Basics.{if_then_else_, either, nothing, just, flat, fi
 use Rattle.meaning.specs.Calls.{State}
 use Rattle.meaning.specs.Identities.{renEntry, renReading}
 use Rattle.meaning.specs.Readings.{Entry, Reading, plain, holds, heldBy}
+use Rattle.meaning.proofs.Booleans.{no-false, either-left, either-right}
 use Rattle.meaning.proofs.Held.{own-readings}
 use Rattle.promises.specs.Calls.{Renamed, SameState}
-use Rattle.promises.proofs.Checks.{no-false}
-
--- Tests.
-
-either-left : (a b : Bool) → a ≡ true → either a b ≡ true
-either-left a b e = ap (λ (c : Bool). either c b) e
-
-either-right : (a b : Bool) → b ≡ true → either a b ≡ true
-either-right true b e = refl
-either-right false b e = e
 
 -- Entries held by readings, as one stack.
 

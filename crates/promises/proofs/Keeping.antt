@@ -31,12 +31,13 @@ use Rattle.cells.proofs.Records.{length-putCell}
 use Rattle.state.specs.Areas.{startOf}
 use Rattle.state.specs.Readings.{usedOf}
 use Rattle.state.proofs.Slots.{length-putSlot}
+use Rattle.meaning.proofs.Booleans.{no-false}
 use Rattle.promises.specs.Buffers.{lengthsRight, feedLengths, listsRight, stateFor, workAfter}
 use Rattle.promises.specs.Calls.{StartPromise, QuestionPromise, StackPromise, feedOn, FeedPromise}
 use Rattle.promises.specs.Claims.{Refusing, WorkLeft, StartKeeps, FeedKeeps, QuestionKeeps, StackKeeps, Demand1}
 use Rattle.promises.proofs.Asking.{Asked, takes-asked, canEnd-asked, canRecover-asked, StackStopped, StackWent, stack-case, all-at}
 use Rattle.promises.proofs.Buffers.{found-holds, feed-long, list-long, written-long, written-past, written-none}
-use Rattle.promises.proofs.Checks.{no-false, StartStopped, StartWent, start-case, FeedStopped, FeedWent, feed-case, feed-tells}
+use Rattle.promises.proofs.Checks.{StartStopped, StartWent, start-case, FeedStopped, FeedWent, feed-case, feed-tells}
 use Rattle.promises.proofs.Refusals.{feed-ranged}
 
 -- The work area by the lengths, where 1 is answered for wrong ones and for no other reason.

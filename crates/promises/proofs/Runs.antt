@@ -31,7 +31,7 @@ use Rattle.meaning.specs.declared.Refusal.the-variants.{WrongTable}
 use Rattle.meaning.specs.declared.Term.{Term}
 use Rattle.meaning.proofs.Known.{known}
 use Rattle.meaning.proofs.Tools.{nil-map}
-use Rattle.cells.proofs.Booleans.{both-left, both-right}
+use Rattle.meaning.proofs.Booleans.{both-left, both-right}
 use Rattle.state.specs.Layout.{stateLength}
 use Rattle.state.specs.Readings.{usedOf}
 use Rattle.promises.specs.Buffers.{feedLengths, stateFor}

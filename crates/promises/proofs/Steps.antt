@@ -18,7 +18,7 @@ use Rattle.meaning.proofs.Held.{own-readings}
 use Rattle.meaning.proofs.Identities.{renaming}
 use Rattle.meaning.proofs.Kept.{feed-keeps}
 use Rattle.promises.specs.Calls.{Renamed}
-use Rattle.promises.proofs.Checks.{no-false}
+use Rattle.meaning.proofs.Booleans.{no-false}
 use Rattle.promises.proofs.Identities.{readings-held, twice-readings, same-readings}
 
 -- P of every identity that readings have.

@@ -9,7 +9,7 @@ use borrow.Author.Tests.{lt-ltb, le-ltb, le-leb, lt-leb}
 use Rattle.cells.specs.Pool.{cellAt}
 use Rattle.cells.specs.Stacks.{linked}
 use Rattle.cells.specs.declared.Cell.{Cell}
-use Rattle.cells.proofs.Booleans.{both-false}
+use Rattle.meaning.proofs.Booleans.{both-false}
 use Rattle.state.specs.Layout.{readingsAt}
 use Rattle.state.specs.Readings.{slotAt, topAt, heightAt, countOf, usedOf}
 use Rattle.state.specs.Check.{slotRight, slotsRight, validState, SlotReady, SlotsReady}

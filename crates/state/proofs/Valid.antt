@@ -11,7 +11,7 @@ use Rattle.meaning.specs.Basics.{just}
 use Rattle.meaning.specs.Limits.{maxReadings}
 use Rattle.cells.specs.Pool.{cellAt}
 use Rattle.cells.specs.Stacks.{StatesBelow}
-use Rattle.cells.proofs.Booleans.{both-left, both-right, both-true}
+use Rattle.meaning.proofs.Booleans.{both-left, both-right, both-true}
 use Rattle.cells.proofs.Stacks.{linked-claim, claim-linked, linked-top}
 use Rattle.state.specs.Layout.{readingsAt, stateCells, stateLength}
 use Rattle.state.specs.Readings.{topAt, heightAt, readingAt, readingsFrom, countOf, usedOf, readingsOf, StandsAt, AllStand, ListIn}

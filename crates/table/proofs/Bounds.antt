@@ -16,7 +16,7 @@ use Rattle.meaning.specs.declared.View.{View}
 use Rattle.table.specs.Answers.{Belongs, actionAnswer, gotoAnswer}
 use Rattle.table.specs.Bounds.{CountsWithin, ActionWithin, RuleWithin, GotoWithin}
 use Rattle.table.specs.declared.Action.{Action}
-use Rattle.table.proofs.Booleans.{both-left, both-right}
+use Rattle.meaning.proofs.Booleans.{both-left, both-right}
 use Rattle.table.proofs.Checking.{checked-frame, checked-content, checked-actions, checked-gotos}
 
 -- The counts.

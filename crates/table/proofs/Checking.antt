@@ -19,7 +19,7 @@ use Rattle.table.specs.declared.Action.{Action}
 use Rattle.table.specs.declared.Goto.{Goto}
 use Rattle.table.specs.declared.Checked.{Checked}
 use Rattle.table.specs.declared.Checked.the-variants.{Wrong, Right}
-use Rattle.table.proofs.Booleans.{both-left, both-right}
+use Rattle.meaning.proofs.Booleans.{both-left, both-right}
 
 -- what find_action and find_goto give
 abbrev pub actionIn : List ℕ → View → (state class : ℕ) → Action

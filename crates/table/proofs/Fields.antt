@@ -10,7 +10,7 @@ use Rattle.meaning.specs.Basics.{if_then_else_, both, every}
 use Rattle.meaning.specs.TableFile.{places}
 use Rattle.meaning.specs.TableRight.{Format, keyOf, fits, ascends, recordsRight, fieldRight}
 use Rattle.table.specs.Records.{recordTest}
-use Rattle.table.proofs.Booleans.{both-left, regroup}
+use Rattle.meaning.proofs.Booleans.{both-left, regroup}
 
 -- Places: the fuel does not matter where there is enough.
 module _ (size : ℕ → ℕ) (some : (p : ℕ) → 0 < size p) (e : ℕ) where

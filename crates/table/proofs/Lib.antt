@@ -1,7 +1,6 @@
 -- The laws: what callers cite, and what only the proofs of this crate cite.
 pub mod Checking
 pub mod Bounds
-mod Booleans
 mod RuleLaws
 mod ActionLaws
 mod GotoLaws

@@ -10,7 +10,7 @@ use Rattle.meaning.specs.Basics.{if_then_else_, both, every, find}
 use Rattle.meaning.specs.TableFile.{places, isPair}
 use Rattle.meaning.specs.TableRight.{Format, pair, keyOf, fits, ascends, recordsRight, fieldRight}
 use Rattle.table.specs.Records.{recordTest, seek, Scan}
-use Rattle.table.proofs.Booleans.{both-left, both-right, not-both}
+use Rattle.meaning.proofs.Booleans.{both-left, both-right, not-both}
 use Rattle.table.proofs.Fields.{places-end, places-more, field-first, test-fits}
 
 -- Pairs.

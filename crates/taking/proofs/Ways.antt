@@ -1,16 +1,14 @@
 -- The ways out of taking a term, and what its planning and its applying ask. Assumes nothing.
 use Prim.Native.Nat.{ℕ, _+_, _*_, _<_, _≤_}
 use native.Mathlib.Omega.{arith}
-use mathlib.Core.Path.{_≡_, refl, sym, ap, _∙_, subst}
-use mathlib.Core.Bool.{Bool, true, false}
-use mathlib.Core.List.{List, _++_}
-use lib.Dec.{ltb}
-use lib.ListN.{length, length-append}
+use mathlib.Core.Path.{_≡_, refl, sym, _∙_, subst}
+use mathlib.Core.List.{List}
+use lib.ListN.{length}
 use borrow.Author.Tests.{le-ltb, lt-ltb}
 use Rattle.meaning.specs.Readings.{Reading, states}
-use Rattle.meaning.specs.TableFile.{Table, tableOf}
-use Rattle.meaning.specs.Walk.{Walk, walked, plan, ends, chains}
-use Rattle.meaning.specs.Applying.{Applied, apply, joined, nothingApplied}
+use Rattle.meaning.specs.TableFile.{tableOf}
+use Rattle.meaning.specs.Walk.{walked, plan, chains}
+use Rattle.meaning.specs.Applying.{Applied, apply, nothingApplied}
 use Rattle.meaning.specs.declared.Refusal.{Refusal}
 use Rattle.meaning.specs.declared.Term.{Term}
 use Rattle.meaning.specs.declared.View.{View}
@@ -24,15 +22,15 @@ use Rattle.state.specs.Readings.{slotAt, ListIn}
 use Rattle.state.specs.declared.Slot.{Slot}
 use Rattle.state.proofs.Holding.{top-room}
 use Rattle.actions.specs.Acting.{stackIn, readingIn}
-use Rattle.actions.specs.Telling.{RoomFor, Told}
+use Rattle.actions.specs.Telling.{Told}
 use Rattle.actions.specs.declared.Counts.{Counts}
 use Rattle.actions.specs.declared.Top.{Top}
 use Rattle.actions.proofs.Outcomes.{result-count, error-count}
 use Rattle.applying.specs.Following.{marksOf, ReadingReady, ReadingDone}
-use Rattle.applying.specs.Planting.{PlanReady, PlanDone, Since}
+use Rattle.applying.specs.Planting.{PlanReady, PlanDone}
 use Rattle.applying.proofs.Alternating.{ready-planned, planted-reading, planted-area, since-planted, since-told, since-then}
 use Rattle.applying.proofs.Rooms.{room-planned}
-use Rattle.taking.specs.Taking.{Paced, TakeReady, planned, Walks, Refuses, Takes, Leaves}
+use Rattle.taking.specs.Taking.{Paced, TakeReady, planned, Refuses, Takes, Leaves}
 use Rattle.taking.specs.declared.SoFar.{SoFar}
 
 abbrev soFar : Counts → (walked chains : ℕ) → SoFar

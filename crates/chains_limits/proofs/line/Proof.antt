@@ -1,7 +1,6 @@
 -- `line`: every cell lies in the pool.
 use Prim.Native.Nat.{_-_, _≤_}
 use mathlib.Core.Path.{_≡_}
-use native.Mathlib.Omega.{arith}
 use lib.ListN.{length}
 use borrow.Author.Needs.{needs}
 use Rattle.chains_limits.proofs.line.Statement.{statement}

@@ -2,7 +2,7 @@
 use native.Mathlib.Omega.{arith}
 use Prim.Native.Nat.{_-_, _≤_}
 use Rattle.console.specs.Tracing.{readingsLeft}
-use Rattle.console.proofs.Tracing.{few-left, counted-on, counted-all, counted-16}
+use Rattle.console.proofs.Tracing.{counted-on, counted-all, counted-16}
 use borrow.Author.Needs.{needs}
 use Rattle.console.proofs.terms.readings_left.Statement.{statement}
 use Rattle.console.proofs.terms.readings_left.Tie as tie
