@@ -1,2 +1,3 @@
--- Laws of what the trace says.
+-- Laws of what the trace says, and of what stands in a line.
 pub mod Tracing
+pub mod Text

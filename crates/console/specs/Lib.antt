@@ -1,2 +1,3 @@
 -- What the programs' library promises.
 pub mod Tracing
+pub mod Text

@@ -1,4 +1,4 @@
-// What the programs share: lines of standard input, words on standard output, terms that are fed. Of a fed term it is proved what the trace says; of the rest, that it is safe and ends: what it does is held to by the stored outputs.
+// What the programs share: lines of standard input, words on standard output, what stands in a line, terms that are fed. What is read out of a line and what the trace says of a term is proved; of input and output, that it is safe and ends.
 pub mod lines;
 pub mod saying;
 pub mod terms;

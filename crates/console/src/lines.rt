@@ -1,4 +1,6 @@
 // Lines of standard input, one after the other.
+ghost use mathlib.Core.Path.{_≡_};
+ghost use Rattle.console.specs.Text.{firstOf};
 use libc::STDIN_FILENO;
 
 // A piece of the input, and a line of it: at most a table file of 65,536 bytes in hexadecimal, and a word.
@@ -29,7 +31,9 @@ pub enum Next {
 }
 
 // The first n bytes; none where there are fewer.
-pub fn first(bytes: &[u8], n: usize) -> &[u8] {
+pub fn first(bytes: &[u8], n: usize) -> &[u8]
+    ensures { λ r. ⌜ now r ≡ firstOf (now (bytes .entry)) n ⌝ }
+{
     if n <= bytes.len() {
         &bytes[..n]
     } else {

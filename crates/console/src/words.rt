@@ -1,13 +1,14 @@
 // What stands in a line: words, numbers with a blank between two, terms.
+ghost use mathlib.Core.Path.{_≡_};
+ghost use Rattle.console.specs.Text.{digitOf, grownBy, ScanIs, pastBlank, numberAt, lastNumber, nextNumber, valueOf, shortOf, termAt, beginsWith};
 use meaning::Term;
 
 const GREATEST: u64 = 4294967295;
 
-// A number of 32 bits that was read, and where the line goes on.
-pub struct Number {
-    pub right: bool,
-    pub value: u32,
-    pub next: usize,
+// A number of 32 bits that was read, and where the line goes on; or none.
+pub enum Number {
+    Is { value: u32, next: usize },
+    Not,
 }
 
 pub enum Parsed {
@@ -15,8 +16,16 @@ pub enum Parsed {
     Not,
 }
 
+// Digits that were read: their number, if it is not too great, and where they end.
+struct Scan {
+    value: u64,
+    end: usize,
+}
+
 // A digit's value, up to 15; 16 for what is no digit.
-pub fn digit(byte: u8) -> u8 {
+pub fn digit(byte: u8) -> u8
+    ensures { λ r. ⌜ r ≡ digitOf byte ⌝ }
+{
     match byte {
         b'0'..=b'9' => byte - 48,
         b'a'..=b'f' => byte - 87,
@@ -26,7 +35,9 @@ pub fn digit(byte: u8) -> u8 {
 }
 
 // The number with one decimal digit more; one that is too great only stays so.
-fn grown(value: u64, digit: u8) -> u64 {
+fn grown(value: u64, digit: u8) -> u64
+    ensures { λ r. ⌜ r ≡ grownBy value digit ⌝ }
+{
     if value > GREATEST {
         return value;
     }
@@ -34,7 +45,9 @@ fn grown(value: u64, digit: u8) -> u64 {
 }
 
 // Past one blank, if there is one.
-fn past_blank(line: &[u8], i: usize) -> usize {
+fn past_blank(line: &[u8], i: usize) -> usize
+    ensures { λ r. ⌜ r ≡ pastBlank (now (line .entry)) i ⌝ }
+{
     if i < line.len() {
         if line[i] == b' ' {
             return i + 1;
@@ -43,55 +56,81 @@ fn past_blank(line: &[u8], i: usize) -> usize {
     i
 }
 
-fn number_of(value: u64, next: usize) -> Number {
-    if value > GREATEST {
-        return Number {
-            right: false,
-            value: 0,
-            next,
-        };
-    }
-    Number {
-        right: true,
-        value: value as u32,
-        next,
-    }
-}
-
-// The decimal digits from a place on, and the blank after them; at least one digit.
-pub fn number_at(line: &[u8], at: usize) -> Number {
+// The decimal digits from a place on.
+fn scanned(line: &[u8], at: usize) -> Scan
+    ensures { λ r. ⌜ ScanIs (now (line .entry)) at r ⌝ }
+{
     let mut value: u64 = 0;
     let mut i = at;
     while i < line.len() {
         let d = digit(line[i]);
         if d > 9 {
-            break;
+            return Scan { value, end: i };
         }
         value = grown(value, d);
         i += 1;
     }
-    if i == at {
-        return Number {
-            right: false,
-            value: 0,
-            next: at,
-        };
+    Scan { value, end: i }
+}
+
+// The number from a place on, of at least one digit, and past the blank after it.
+pub fn number_at(line: &[u8], at: usize) -> Number
+    ensures { λ r. ⌜ r ≡ numberAt (now (line .entry)) at ⌝ }
+{
+    let scan = scanned(line, at);
+    let end = scan.end;
+    if end == at {
+        return Number::Not;
     }
-    number_of(value, past_blank(line, i))
+    let value = scan.value;
+    if value > GREATEST {
+        return Number::Not;
+    }
+    Number::Is {
+        value: value as u32,
+        next: past_blank(line, end),
+    }
 }
 
 // The same, as the line's last.
-pub fn last_number(line: &[u8], at: usize) -> Number {
-    let number = number_at(line, at);
-    Number {
-        right: number.right && number.next == line.len(),
-        value: number.value,
-        next: number.next,
+pub fn last_number(line: &[u8], at: usize) -> Number
+    ensures { λ r. ⌜ r ≡ lastNumber (now (line .entry)) at ⌝ }
+{
+    match number_at(line, at) {
+        Number::Not => Number::Not,
+        Number::Is { value, next } => {
+            if next == line.len() {
+                return Number::Is { value, next };
+            }
+            Number::Not
+        }
+    }
+}
+
+// The number after another; none if that is none.
+fn next_number(line: &[u8], before: Number) -> Number
+    ensures { λ r. ⌜ r ≡ nextNumber (now (line .entry)) before ⌝ }
+{
+    match before {
+        Number::Not => Number::Not,
+        Number::Is { value: _, next } => number_at(line, next),
+    }
+}
+
+// A number's value; 0 for none.
+fn value_of(number: Number) -> u32
+    ensures { λ r. ⌜ r ≡ valueOf number ⌝ }
+{
+    match number {
+        Number::Not => 0,
+        Number::Is { value, next: _ } => value,
     }
 }
 
 // A class or a reading's number; where it is too great for 16 bits, one that is too great for every table and state.
-pub fn short(value: u32) -> u16 {
+pub fn short(value: u32) -> u16
+    ensures { λ r. ⌜ r ≡ shortOf value ⌝ }
+{
     if value > 65535 {
         return 65535;
     }
@@ -99,24 +138,32 @@ pub fn short(value: u32) -> u16 {
 }
 
 // The four numbers of a term, from a place on to the line's end.
-pub fn term_at(line: &[u8], at: usize) -> Parsed {
+pub fn term_at(line: &[u8], at: usize) -> Parsed
+    ensures { λ r. ⌜ r ≡ termAt (now (line .entry)) at ⌝ }
+{
     let class = number_at(line, at);
-    let value = number_at(line, class.next);
-    let start = number_at(line, value.next);
-    let end = last_number(line, start.next);
-    if class.right && value.right && start.right && end.right {
-        return Parsed::Is(Term {
-            class: short(class.value),
-            value: value.value,
-            start: start.value,
-            end: end.value,
-        });
+    let value = next_number(line, class);
+    let start = next_number(line, value);
+    match next_number(line, start) {
+        Number::Not => Parsed::Not,
+        Number::Is { value: end, next } => {
+            if next == line.len() {
+                return Parsed::Is(Term {
+                    class: short(value_of(class)),
+                    value: value_of(value),
+                    start: value_of(start),
+                    end,
+                });
+            }
+            Parsed::Not
+        }
     }
-    Parsed::Not
 }
 
 // Whether the line begins with a word.
-pub fn begins(line: &[u8], word: &[u8]) -> bool {
+pub fn begins(line: &[u8], word: &[u8]) -> bool
+    ensures { λ r. ⌜ r ≡ beginsWith (now (line .entry)) (now (word .entry)) ⌝ }
+{
     let mut i: usize = 0;
     while i < word.len() {
         if i >= line.len() {

@@ -1,5 +1,6 @@
 // The commands of a script.
 use console::words;
+use console::words::Number;
 use console::words::Parsed;
 use meaning::Term;
 
@@ -42,19 +43,17 @@ fn term_of(line: &[u8]) -> Command {
 }
 
 fn takes_of(line: &[u8]) -> Command {
-    let class = words::last_number(line, 6);
-    if class.right {
-        return Command::Call(Call::Takes(class.value));
+    match words::last_number(line, 6) {
+        Number::Is { value, next: _ } => Command::Call(Call::Takes(value)),
+        Number::Not => Command::Not,
     }
-    Command::Not
 }
 
 fn stack_of(line: &[u8]) -> Command {
-    let number = words::last_number(line, 6);
-    if number.right {
-        return Command::Call(Call::Stack(number.value));
+    match words::last_number(line, 6) {
+        Number::Is { value, next: _ } => Command::Call(Call::Stack(value)),
+        Number::Not => Command::Not,
     }
-    Command::Not
 }
 
 // The commands without numbers.

@@ -1,30 +1,17 @@
--- `console::words::number_at` is safe and ends: the measure is what is left of the line. Assumes nothing.
+-- `console::words::number_at` meets its contract. Assumes nothing.
+use Rattle.console.proofs.Text.{number-none, number-great, number-is}
 use borrow.Author.Needs.{needs}
-use Prim.Native.Nat.{_-_}
-use lib.ListN.{length}
 use Rattle.console.proofs.words.number_at.Statement.{statement}
 use Rattle.console.proofs.words.number_at.Tie as tie
 
-abbrev Inv-loop : tie.InvT-loop
-Inv-loop line at value₀ i₀ value i = Unit {0}
+returns : tie.Need-returns
+returns c = search (number-none)
 
-abbrev μ-loop : tie.MeasureT-loop
-μ-loop line at value₀ i₀ value i = length line - i
+returns-2 : tie.Need-returns-2
+returns-2 c = search (number-great)
+
+returns-3 : tie.Need-returns-3
+returns-3 c = search (number-is)
 
 pub number-at-spec : {M : Type 1} → statement M
-number-at-spec =
-    tie.close
-    (tie.spec
-    Inv-loop
-    μ-loop
-    (λ c. search needs)
-    (λ c. search needs)
-    (λ c κs. search needs)
-    (λ c κs. search needs)
-    (λ c. search needs)
-    (λ c. search needs)
-    (λ c. search needs)
-    (λ c. search needs)
-    (λ c κs. search needs)
-    (λ c κs. search needs)
-    (λ c. search needs))
+number-at-spec = tie.close (tie.spec (λ c κs. search needs) returns returns-2 (λ c. search needs) (λ c κs. search needs) returns-3)
