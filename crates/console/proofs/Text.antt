@@ -2,7 +2,7 @@
 use mathlib.Core.Path.{_≡_, refl, sym, ap, ap₂, _∙_}
 use mathlib.Core.Bool.{Bool, true, false}
 use mathlib.Core.List.{List, [], _∷_}
-use Prim.Native.Nat.{ℕ, zero, suc, _+_, _-_, _*_, _<_, _≤_}
+use Prim.Native.Nat.{ℕ, suc, _+_, _-_, _*_, _<_, _≤_}
 use native.Mathlib.Omega.{arith}
 use lib.Dec.{eqb, ltb, leb}
 use lib.ListN.{length, getD, take, drop, drop-of-length-le}
@@ -13,7 +13,6 @@ use Rattle.meaning.proofs.Booleans.{no-false, both-true, both-false, not-both}
 use Rattle.console.specs.Text.{digitOf, digits, numberFrom, greatest, grownBy, digitsAt, ScanIs, pastBlank, numberAt, lastNumber, nextNumber, valueOf, shortOf, termAt, beginsWith, firstOf}
 use Rattle.console.specs.declared.words.Number.{Number}
 use Rattle.console.specs.declared.words.Number.the-variants as number
-use Rattle.console.specs.declared.words.Parsed.{Parsed}
 use Rattle.console.specs.declared.words.Parsed.the-variants as parsed
 use Rattle.console.specs.declared.words.Scan.{Scan}
 

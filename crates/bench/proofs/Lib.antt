@@ -1,0 +1,2 @@
+-- Laws of what is measured.
+pub mod Measuring

@@ -1,0 +1,2 @@
+-- What is promised of what is measured.
+pub mod Measured
