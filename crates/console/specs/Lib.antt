@@ -1,3 +1,4 @@
 -- What the programs' library promises.
 pub mod Tracing
 pub mod Text
+pub mod Input

@@ -1,4 +1,4 @@
-// What the programs share: lines of standard input, words on standard output, what stands in a line, terms that are fed. What is read out of a line and what the trace says of a term is proved; of input and output, that it is safe and ends.
+// What the programs share: lines of standard input, words on standard output, what stands in a line, terms that are fed. What a line takes in, what is read out of it and what the trace says of a term is promised; of what is written, nothing can be.
 pub mod lines;
 pub mod saying;
 pub mod terms;

@@ -1,5 +1,6 @@
 // Lines of standard input, one after the other.
 ghost use mathlib.Core.Path.{_≡_};
+ghost use Rattle.console.specs.Input.{Refilled, Fetched, PutIs, endedLine, endedInput, Fits};
 ghost use Rattle.console.specs.Text.{firstOf};
 use libc::STDIN_FILENO;
 
@@ -42,12 +43,16 @@ pub fn first(bytes: &[u8], n: usize) -> &[u8]
 }
 
 // Before the first piece is read.
-pub fn nothing() -> Rest {
+pub fn nothing() -> Rest
+    ensures { λ r. ⌜ r ≡ record { at = 0; end = 0 } ⌝ }
+{
     Rest { at: 0, end: 0 }
 }
 
 // The next piece's first byte.
-fn refill(piece: &mut Piece) -> Byte {
+fn refill(piece: &mut Piece) -> Byte
+    ensures { λ r. ⌜ Refilled (now (piece .exit)) r ⌝ }
+{
     let end = io::count(libc::read(STDIN_FILENO, &mut *piece), piece);
     if end == 0 {
         return Byte::End;
@@ -58,24 +63,29 @@ fn refill(piece: &mut Piece) -> Byte {
     }
 }
 
-fn next_byte(piece: &mut Piece, rest: Rest) -> Byte {
+fn next_byte(piece: &mut Piece, rest: Rest) -> Byte
+    ensures { λ r. ⌜ Fetched (now (piece .entry)) rest r (now (piece .exit)) ⌝ }
+{
     let at = rest.at;
-    if at < rest.end {
-        if at < PIECE {
-            return Byte::Is {
-                byte: piece[at],
-                rest: Rest {
-                    at: at + 1,
-                    end: rest.end,
-                },
-            };
-        }
+    if rest.end <= at {
+        return refill(piece);
     }
-    refill(piece)
+    if PIECE <= at {
+        return refill(piece);
+    }
+    Byte::Is {
+        byte: piece[at],
+        rest: Rest {
+            at: at + 1,
+            end: rest.end,
+        },
+    }
 }
 
 // A line too long for its place is cut, and counts one byte more than the place has.
-fn put(line: &mut Line, length: usize, byte: u8) -> usize {
+fn put(line: &mut Line, length: usize, byte: u8) -> usize
+    ensures { λ r. ⌜ PutIs (now (line .entry)) length byte r (now (line .exit)) ⌝ }
+{
     if length < LINE {
         line[length] = byte;
         return length + 1;
@@ -83,7 +93,9 @@ fn put(line: &mut Line, length: usize, byte: u8) -> usize {
     LINE + 1
 }
 
-fn ended_line(length: usize, rest: Rest) -> Next {
+fn ended_line(length: usize, rest: Rest) -> Next
+    ensures { λ r. ⌜ r ≡ endedLine length rest ⌝ }
+{
     if length > LINE {
         return Next::TooLong { rest };
     }
@@ -91,7 +103,9 @@ fn ended_line(length: usize, rest: Rest) -> Next {
 }
 
 // The last line may lack its end.
-fn ended_input(length: usize, rest: Rest) -> Next {
+fn ended_input(length: usize, rest: Rest) -> Next
+    ensures { λ r. ⌜ r ≡ endedInput length rest ⌝ }
+{
     if length == 0 {
         return Next::End;
     }
@@ -99,7 +113,9 @@ fn ended_input(length: usize, rest: Rest) -> Next {
 }
 
 // The next line, without its end. A proved loop has to end, and nothing says that the input does: the loop counts down from a number that no run uses up.
-pub fn next_line(piece: &mut Piece, rest: Rest, line: &mut Line) -> Next {
+pub fn next_line(piece: &mut Piece, rest: Rest, line: &mut Line) -> Next
+    ensures { λ r. ⌜ Fits r ⌝ }
+{
     let mut rest = rest;
     let mut length: usize = 0;
     let mut turns = u64::MAX;

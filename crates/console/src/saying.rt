@@ -1,4 +1,4 @@
-// Words, numbers and lines on standard output.
+// Words, numbers and lines on standard output. They have no promise: what a write puts out stands in no contract below them, so only safe and ending is proved.
 use libc::STDOUT_FILENO;
 
 pub fn say(words: &[u8]) {

@@ -37,7 +37,7 @@ fn takes_right(
     questions::takes(table, view, state, class, marks)
 }
 
-pub fn takes(table: &[u8], state: &[u8], marks: &mut [u8], class: u16) -> QuestionAnswer
+pub(super) fn takes(table: &[u8], state: &[u8], marks: &mut [u8], class: u16) -> QuestionAnswer
     requires { ⌜ AsksLine (now state) (now marks) ⌝ }
     ensures { λ r. ⌜ r ≡ takesCall true (now (table .entry)) (stateFor (now (table .entry)) (now (state .entry))) class ⌝ }
 {
@@ -47,7 +47,7 @@ pub fn takes(table: &[u8], state: &[u8], marks: &mut [u8], class: u16) -> Questi
     }
 }
 
-pub fn can_end(table: &[u8], state: &[u8], marks: &mut [u8]) -> QuestionAnswer
+pub(super) fn can_end(table: &[u8], state: &[u8], marks: &mut [u8]) -> QuestionAnswer
     requires { ⌜ AsksLine (now state) (now marks) ⌝ }
     ensures { λ r. ⌜ r ≡ canEndCall true (now (table .entry)) (stateFor (now (table .entry)) (now (state .entry))) ⌝ }
 {
@@ -57,7 +57,7 @@ pub fn can_end(table: &[u8], state: &[u8], marks: &mut [u8]) -> QuestionAnswer
     }
 }
 
-pub fn can_recover(table: &[u8], state: &[u8], marks: &mut [u8]) -> QuestionAnswer
+pub(super) fn can_recover(table: &[u8], state: &[u8], marks: &mut [u8]) -> QuestionAnswer
     requires { ⌜ AsksLine (now state) (now marks) ⌝ }
     ensures { λ r. ⌜ r ≡ canRecoverCall true (now (table .entry)) (stateFor (now (table .entry)) (now (state .entry))) ⌝ }
 {

@@ -9,7 +9,7 @@ use meaning::StartAnswer;
 use meaning::StateNo;
 use table::Checked;
 
-pub fn start_line(table: &[u8], state: &mut [u8]) -> StartAnswer
+pub(super) fn start_line(table: &[u8], state: &mut [u8]) -> StartAnswer
     requires { ⌜ length (now state) ≡ stateLength ⌝ }
     ensures { λ r. ⌜ StartLine (now (table .entry)) (now (state .entry)) r (now (state .exit)) ⌝ }
 {

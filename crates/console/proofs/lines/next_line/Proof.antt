@@ -1,4 +1,5 @@
--- `console::lines::next_line` is safe and ends: the measure is the number of turns that are left. Assumes nothing.
+-- `console::lines::next_line` meets its contract; the measure is the number of turns that are left. Assumes nothing.
+use Rattle.console.proofs.Input.{line-fits, input-fits, end-fits}
 use borrow.Author.Needs.{needs}
 use Rattle.console.proofs.lines.next_line.Statement.{statement}
 use Rattle.console.proofs.lines.next_line.Tie as tie
@@ -19,12 +20,12 @@ next-line-spec =
     (λ c κs. search needs)
     (λ c. search needs)
     (λ c κs. search needs)
-    (λ c. search needs)
-    (λ c. search needs)
-    (λ c κs. search needs)
+    (λ c. search (input-fits))
     (λ c. search needs)
     (λ c κs. search needs)
+    (λ c. search (line-fits))
+    (λ c κs. search needs)
     (λ c. search needs)
     (λ c. search needs)
     (λ c. search needs)
-    (λ c. search needs))
+    (λ c. search (end-fits)))
