@@ -24,8 +24,8 @@ use Rattle.table.specs.declared.Goto.{Goto}
 use Rattle.table.specs.declared.Goto.the-variants as goto
 use Rattle.table.proofs.Checking.{belongs-of, wrong-of}
 use Rattle.meaning.specs.declared.StateNo.{StateNo}
-use Rattle.covered.specs.Feeding.{RunPromise}
-use Rattle.covered.specs.declared.running.FeedRun.{FeedRun}
+use Rattle.by_value.specs.Feeding.{RunPromise}
+use Rattle.by_value.specs.declared.running.FeedRun.{FeedRun}
 use Rattle.bench.specs.Measured.{oneIf, placeOf, actionTarget, gotoTarget, FeedMeasured, stateRight, loadedIf}
 
 -- The check.

@@ -17,8 +17,8 @@ use Rattle.state.specs.Check.{validState}
 use Rattle.state.specs.Layout.{stateLength, workLength, stateCells}
 use Rattle.state.specs.Readings.{usedOf}
 use Rattle.promises.specs.Calls.{StartPromise}
-use Rattle.covered.specs.Feeding.{RunPromise}
-use Rattle.covered.specs.declared.running.FeedRun.{FeedRun}
+use Rattle.by_value.specs.Feeding.{RunPromise}
+use Rattle.by_value.specs.declared.running.FeedRun.{FeedRun}
 
 abbrev pub oneIf : Bool → ℕ
 oneIf b = if b then 1 else 0

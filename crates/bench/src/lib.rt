@@ -6,7 +6,7 @@ ghost use Rattle.meaning.specs.TableRight.{tableOk};
 ghost use Rattle.numbers.specs.Zeros.{zeros};
 ghost use Rattle.table.specs.Answers.{Belongs};
 ghost use Rattle.bench.specs.Measured.{oneIf, placeOf, actionTarget, gotoTarget, StartMeasured, FeedMeasured, stateRight, loadedIf};
-use covered::running;
+use by_value::running;
 use machine::Machine;
 use meaning::StateNo;
 use meaning::Term;

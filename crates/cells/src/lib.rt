@@ -9,6 +9,7 @@ ghost use Rattle.cells.specs.Pool.{cellSize, cellAt, putCell};
 ghost use Rattle.cells.specs.Stacks.{entryAt, entriesOf, downFrom, linked, StackIn};
 use meaning::CellNo;
 use meaning::Entry;
+use meaning::HEIGHTS;
 use meaning::StateNo;
 
 // Bytes of a cell: parent 2, height 2, state 2, value 4, start 4, end 4.
@@ -127,7 +128,7 @@ pub fn holds_cell(pool: &[u8], height: u16, top: CellNo, c: CellNo) -> bool
 }
 
 // The states of a stack, the lowest first; the places above the height are kept.
-pub fn states_into(pool: &[u8], height: u16, top: CellNo, old: [u16; 64]) -> [u16; 64]
+pub fn states_into(pool: &[u8], height: u16, top: CellNo, old: [u16; HEIGHTS]) -> [u16; HEIGHTS]
     requires { ⌜ (height ≤ 64) × StackIn (now pool) height (top .0) ⌝ }
     ensures { λ r. ⌜ r ≡ written (reverse (states (entriesOf (cellAt (now (pool .entry))) height (top .0)))) old ⌝ }
 {

@@ -51,7 +51,7 @@ fn pile(work: &mut Work, first: u16, height: u16) {
     }
     let mut h: u16 = 0;
     while h < height {
-        if h <= state::MAX_HEIGHT {
+        if h <= meaning::MAX_HEIGHT {
             bear(&mut *work, first + h, under(first, first + h), h + 1);
         }
         h += 1;
@@ -60,7 +60,7 @@ fn pile(work: &mut Work, first: u16, height: u16) {
 
 // The result i: its top, and a mark of its own.
 fn list(work: &mut Work, i: u16, top: u16) {
-    if i < state::MAX_READINGS {
+    if i < meaning::MAX_READINGS {
         state::put_slot(
             &mut *work,
             state::RESULTS_AT,
@@ -75,7 +75,7 @@ fn list(work: &mut Work, i: u16, top: u16) {
 
 // Commits results that pass the test of a list; false if they do not.
 fn commit_right(work: &mut Work, state: &mut State, count: u16, cells: u16) -> bool {
-    if count > state::MAX_READINGS {
+    if count > meaning::MAX_READINGS {
         return false;
     }
     if cells > state::WORK_CELLS {
@@ -126,7 +126,7 @@ fn one_pile(work: &mut Work, state: &mut State, height: u16) {
 fn piles_apart(work: &mut Work, count: u16) {
     let mut i: u16 = 0;
     while i < count {
-        if i < state::MAX_READINGS {
+        if i < meaning::MAX_READINGS {
             pile(&mut *work, i * 64, 64);
             list(&mut *work, i, i * 64 + 63);
         }
@@ -139,7 +139,7 @@ fn piles_shared(work: &mut Work, count: u16) {
     pile(&mut *work, 0, 63);
     let mut i: u16 = 0;
     while i < count {
-        if i < state::MAX_READINGS {
+        if i < meaning::MAX_READINGS {
             bear(&mut *work, 63 + i, 62, 64);
             list(&mut *work, i, 63 + i);
         }
@@ -165,7 +165,7 @@ fn reload(work: &mut Work, state: &State) {
     }
     state::load(state, &mut *work);
     let mut i: u16 = 0;
-    while i < state::MAX_READINGS {
+    while i < meaning::MAX_READINGS {
         let slot = state::get_slot(state, state::READINGS_AT, i);
         let top = slot.top;
         list(&mut *work, i, top.0);

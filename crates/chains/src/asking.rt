@@ -7,6 +7,7 @@ ghost use Rattle.chains.specs.Planning.{Asks};
 use super::Planned;
 use super::plan;
 use meaning::ERROR_CLASS;
+use meaning::HEIGHTS;
 use meaning::QuestionAnswer;
 use meaning::View;
 
@@ -18,7 +19,7 @@ pub fn can_plan(
     table: &[u8],
     view: View,
     class: u16,
-    stack: [u16; 64],
+    stack: [u16; HEIGHTS],
     height: usize,
     marks: &mut [u8],
 ) -> QuestionAnswer
@@ -41,7 +42,7 @@ pub fn can_plan(
 pub fn recovers_from(
     table: &[u8],
     view: View,
-    stack: [u16; 64],
+    stack: [u16; HEIGHTS],
     height: usize,
     marks: &mut [u8],
 ) -> QuestionAnswer

@@ -12,6 +12,7 @@ ghost use Rattle.chains.specs.Filling.{StackAsks, WithinAsks, PlannedWit
 use super::Planned;
 use super::asking;
 use meaning::CellNo;
+use meaning::HEIGHTS;
 use meaning::QuestionAnswer;
 use meaning::View;
 
@@ -31,7 +32,7 @@ pub fn plan_stack(
     ensures answer { λ r. ⌜ r ≡ planOf (plan (tableOf (now (table .entry))) room class (states (entriesOf (cellAt (now (pool .entry))) height (top .0))) chains) ⌝ }
     ensures marked { λ _. ⌜ MarksHold (now (marks .exit)) 0 (plan (tableOf (now (table .entry))) room class (states (entriesOf (cellAt (now (pool .entry))) height (top .0))) chains) ⌝ }
 {
-    let stack = cells::states_into(pool, height, top, [0; 64]);
+    let stack = cells::states_into(pool, height, top, [0; HEIGHTS]);
     super::plan(
         table,
         view,
@@ -59,7 +60,7 @@ pub fn plan_within(
     requires { ⌜ WithinAsks (now table) view (now work) at height (top .0) room chains ⌝ }
     ensures { λ r. ⌜ PlannedWithin (plan (tableOf (now (table .entry))) room class (states (entriesOf (cellAt (now (work .entry))) height (top .0))) chains) (now (work .entry)) at (now (work .exit)) r ⌝ }
 {
-    let stack = cells::states_into(work, height, top, [0; 64]);
+    let stack = cells::states_into(work, height, top, [0; HEIGHTS]);
     let end = at + 4096;
     super::plan(
         table,
@@ -86,7 +87,7 @@ pub fn can_plan_stack(
     requires { ⌜ StackAsks (now table) view (now pool) height (top .0) 1025 0 (now marks) ⌝ }
     ensures { λ r. ⌜ r ≡ canPlan (tableOf (now (table .entry))) class (states (entriesOf (cellAt (now (pool .entry))) height (top .0))) ⌝ }
 {
-    let stack = cells::states_into(pool, height, top, [0; 64]);
+    let stack = cells::states_into(pool, height, top, [0; HEIGHTS]);
     asking::can_plan(table, view, class, stack, height as usize, marks)
 }
 
@@ -102,6 +103,6 @@ pub fn recovers_stack(
     requires { ⌜ StackAsks (now table) view (now pool) height (top .0) 1025 0 (now marks) ⌝ }
     ensures { λ r. ⌜ r ≡ recoversFrom (tableOf (now (table .entry))) (states (entriesOf (cellAt (now (pool .entry))) height (top .0))) ⌝ }
 {
-    let stack = cells::states_into(pool, height, top, [0; 64]);
+    let stack = cells::states_into(pool, height, top, [0; HEIGHTS]);
     asking::recovers_from(table, view, stack, height as usize, marks)
 }

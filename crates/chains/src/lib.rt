@@ -8,6 +8,8 @@ ghost use Rattle.chains.specs.Simulated.{stackOf};
 ghost use Rattle.chains.specs.Marks.{putMark, chainsMark, sizeMark, MarksHold};
 ghost use Rattle.chains.specs.Actions.{tooHigh};
 ghost use Rattle.chains.specs.Planning.{planOf, endsAs, Asks, Ready, RulesReady, MarkReady, Answers, stateWalk, rulesWalk};
+use meaning::HEIGHTS;
+use meaning::MAX_CHAIN;
 use meaning::Refusal;
 use meaning::View;
 use reducing::Progress;
@@ -23,8 +25,6 @@ pub use filling::can_plan_stack;
 pub use filling::plan_stack;
 pub use filling::plan_within;
 pub use filling::recovers_stack;
-pub use reducing::MAX_CHAIN;
-pub use reducing::MAX_WALKED;
 
 // What a planning comes to: refused, or the reductions tried, and the chains ended so far.
 pub enum Planned {
@@ -44,7 +44,7 @@ fn too_high(action: Action, height: usize) -> bool
     ensures { λ r. ⌜ r ≡ tooHigh action height ⌝ }
 {
     if action.shifts {
-        return reducing::MAX_HEIGHT <= height;
+        return HEIGHTS <= height;
     }
     false
 }
@@ -154,7 +154,7 @@ fn plan(
     view: View,
     room: usize,
     class: u16,
-    stack: [u16; 64],
+    stack: [u16; HEIGHTS],
     height: usize,
     chains: usize,
     marks: &mut [u8],
@@ -169,7 +169,7 @@ fn plan(
         height,
     };
     let at = Progress {
-        left: reducing::MAX_CHAIN,
+        left: MAX_CHAIN,
         walked: 0,
         chains,
     };

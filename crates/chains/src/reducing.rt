@@ -6,21 +6,16 @@ ghost use Rattle.meaning.specs.TableFile.{tableOf};
 ghost use Rattle.table.specs.Answers.{Belongs};
 ghost use Rattle.chains.specs.Simulated.{stackOf, Standing, Pushed};
 ghost use Rattle.chains.specs.Reducing.{Stepped, IsReduction};
+use meaning::HEIGHTS;
+use meaning::MAX_WALKED;
 use meaning::Refusal;
 use meaning::StateNo;
 use meaning::View;
 use table::Goto;
 
-// The limits of a walk.
-pub const MAX_HEIGHT: usize = 64;
-
-pub const MAX_CHAIN: usize = 32;
-
-pub const MAX_WALKED: usize = 1024;
-
 // A simulated stack: its states, lowest first, and its height. It is copied at each reduction.
 pub struct Stack {
-    pub states: [u16; 64],
+    pub states: [u16; HEIGHTS],
     pub height: usize,
 }
 
@@ -104,7 +99,7 @@ pub fn reduce_by(table: &[u8], view: View, stack: Stack, number: u16, at: Progre
     match goto {
         Goto::Nothing => Reduced::Refused(Refusal::NoGoto),
         Goto::To(state) => {
-            if MAX_HEIGHT <= base {
+            if HEIGHTS <= base {
                 return Reduced::Refused(Refusal::TooHigh);
             }
             Reduced::To { state, base }

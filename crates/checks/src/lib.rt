@@ -4,12 +4,10 @@ ghost use lib.ListN.{length};
 ghost use Rattle.state.specs.Layout.{stateLength};
 ghost use Rattle.promises.specs.Buffers.{lengthsRight, feedLengths};
 ghost use Rattle.checks.specs.Checks.{foundOf};
+use meaning::MAX_ERRORS;
 use meaning::Refusal;
 use meaning::View;
 use table::Checked;
-
-// The places of the lent list of error records.
-pub const ERROR_PLACES: usize = 32;
 
 // A table and a state that go together, or the refusal.
 pub enum Found {
@@ -32,7 +30,7 @@ pub fn feed_lengths_right(state: &[u8], work: &[u8], places: usize) -> bool
     ensures { λ r. ⌜ r ≡ feedLengths (now (state .entry)) (now (work .entry)) places ⌝ }
 {
     if lengths_right(state, work) {
-        return places == ERROR_PLACES;
+        return places == MAX_ERRORS;
     }
     false
 }

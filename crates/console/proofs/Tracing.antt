@@ -22,8 +22,8 @@ use Rattle.state.specs.Layout.{stateLength}
 use Rattle.promises.specs.Buffers.{listsRight, stateFor}
 use Rattle.promises.specs.Calls.{stackOn}
 use Rattle.promises.proofs.Buffers.{found-holds}
-use Rattle.covered.specs.Reading.{ReadPromise}
-use Rattle.covered.specs.declared.reading.StackRead.{StackRead}
+use Rattle.by_value.specs.Reading.{ReadPromise}
+use Rattle.by_value.specs.declared.reading.StackRead.{StackRead}
 use Rattle.console.specs.Tracing.{readingsLeft}
 
 -- By what the checks find: how many readings there are, and what reading one out answers.

@@ -9,15 +9,15 @@ use Rattle.meaning.specs.Calls.{checked}
 use Rattle.meaning.specs.Limits.{maxErrors}
 use Rattle.meaning.specs.declared.Term.{Term}
 use Rattle.promises.specs.Buffers.{stateFor}
-use Rattle.covered.specs.Feeding.{RunPromise}
-use Rattle.covered.specs.declared.running.FeedRun.{FeedRun}
+use Rattle.by_value.specs.Feeding.{RunPromise}
+use Rattle.by_value.specs.declared.running.FeedRun.{FeedRun}
 use Rattle.console.specs.declared.terms.Traced.{Traced}
 
 -- How many readings can be read out of a state: none where the table or the state is wrong.
 unfoldable pub readingsLeft : (table state : List ℕ) → ℕ
 readingsLeft table state = checked true table (stateFor table state) (λ k. 0) (λ t rs. length rs)
 
--- A run of the covered feed, its numbers, and the readings that it left.
+-- A run of the feed by value, its numbers, and the readings that it left.
 pub record TracedIs (table state work : List ℕ) (x : Term) (r : Traced) (state′ work′ : List ℕ) : Type 0 where
   pub run : FeedRun
   pub promise : RunPromise table state work x maxErrors run state′ work′

@@ -7,6 +7,7 @@ ghost use Rattle.state.specs.Layout.{workLength};
 ghost use Rattle.gathering.specs.Gathering.{noErrors, Gathered};
 use lists::Errors;
 use meaning::ErrorRecord;
+use meaning::MAX_ERRORS;
 use meaning::StateNo;
 
 // What a refused feed hands back.
@@ -18,7 +19,7 @@ pub fn no_errors() -> Errors
         state: StateNo(0),
         mark: 0,
     };
-    let list = [none; 32];
+    let list = [none; MAX_ERRORS];
     Errors { list, count: 0 }
 }
 
@@ -32,7 +33,7 @@ pub fn errors_of(work: &[u8], count: u16) -> Errors
         state: StateNo(0),
         mark: 0,
     };
-    let mut list = [none; 32];
+    let mut list = [none; MAX_ERRORS];
     let mut i: u16 = 0;
     while i < count {
         list[i as usize] = actions::errors::get_error(work, i);

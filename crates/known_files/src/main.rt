@@ -42,7 +42,7 @@ fn compare(name: &[u8], bytes: &[u8]) {
 }
 
 fn main() {
-    compare(b"t1.tab", &known::t1());
-    compare(b"t2.tab", &known::t2());
-    compare(b"t4.tab", &known::t4());
+    compare(b"t1.tab", &known_tables::t1());
+    compare(b"t2.tab", &known_tables::t2());
+    compare(b"t4.tab", &known_tables::t4());
 }

@@ -1,10 +1,10 @@
 // Walks the limits of a feed, on either side of each, and says what is answered and what is left.
+use by_value::reading;
 use console::State;
 use console::Work;
 use console::saying;
 use console::terms;
 use console::terms::Traced;
-use covered::reading;
 use machine::Machine;
 use meaning::StackAnswer;
 use meaning::StartAnswer;

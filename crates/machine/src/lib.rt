@@ -15,29 +15,29 @@ mod starting;
 pub struct Machine {}
 
 impl Machine {
-    // The eight limits, each from the crate whose proof holds it to the meaning's.
-    pub const STATES: u16 = table::MAX_STATES;
+    // The eight limits.
+    pub const STATES: u16 = meaning::MAX_STATES;
 
-    pub const CLASSES: u16 = table::MAX_CLASSES;
+    pub const CLASSES: u16 = meaning::MAX_CLASSES;
 
-    pub const NONTERMINALS: u16 = table::MAX_NONTERMINALS;
+    pub const NONTERMINALS: u16 = meaning::MAX_NONTERMINALS;
 
-    pub const RULES: u16 = table::MAX_RULES;
+    pub const RULES: u16 = meaning::MAX_RULES;
 
-    pub const READINGS: u16 = state::MAX_READINGS;
+    pub const READINGS: u16 = meaning::MAX_READINGS;
 
-    pub const HEIGHT: u16 = state::MAX_HEIGHT;
+    pub const HEIGHT: u16 = meaning::MAX_HEIGHT;
 
-    pub const CHAIN: usize = chains::MAX_CHAIN;
+    pub const CHAIN: usize = meaning::MAX_CHAIN;
 
-    pub const WALKED: usize = chains::MAX_WALKED;
+    pub const WALKED: usize = meaning::MAX_WALKED;
 
     // The lengths of the lent buffers, and the places of the lent list of errors.
     pub const STATE_LENGTH: usize = state::STATE_LENGTH;
 
     pub const WORK_LENGTH: usize = state::WORK_LENGTH;
 
-    pub const ERRORS: usize = checks::ERROR_PLACES;
+    pub const ERRORS: usize = meaning::MAX_ERRORS;
 
     // Makes a state buffer of any content the state of a new line.
     pub fn start(table: &[u8], state: &mut [u8], work: &mut [u8]) -> StartAnswer
@@ -104,7 +104,7 @@ impl Machine {
     pub fn stack(table: &[u8], state: &[u8], number: u16, entries: &mut [Entry]) -> StackAnswer
         ensures { λ r. ⌜ StackPromise (now (table .entry)) (now (state .entry)) number (now (entries .entry)) r (now (entries .exit)) ⌝ }
     {
-        let read = covered::reading::stack_of(table, state, number, entries.len());
+        let read = by_value::reading::stack_of(table, state, number, entries.len());
         let list = read.entries;
         lists::entries::fill(entries, list);
         read.answer
@@ -120,7 +120,7 @@ impl Machine {
     ) -> FeedAnswer
         ensures { λ r. ⌜ FeedPromise (now (table .entry)) (now (state .entry)) (now (work .entry)) term (now (errors .entry)) r (now (state .exit)) (now (work .exit)) (now (errors .exit)) ⌝ }
     {
-        let run = covered::running::feed_of(table, state, work, term, errors.len());
+        let run = by_value::running::feed_of(table, state, work, term, errors.len());
         let list = run.errors;
         lists::errors::fill(errors, list);
         run.answer

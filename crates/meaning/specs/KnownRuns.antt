@@ -2,7 +2,7 @@
 use Prim.Native.Nat.{ℕ, _+_}
 use mathlib.Core.Bool.{true}
 use mathlib.Core.List.{List, [], _∷_, map, reverse}
-use Rattle.meaning.specs.Basics.{nothing, just}
+use Rattle.meaning.specs.Basics.{Maybe, nothing, just}
 use Rattle.meaning.specs.Readings.{Reading, seen}
 use Rattle.meaning.specs.TableFile.{stateNo}
 use Rattle.meaning.specs.Bounds.{maxBirths}
@@ -18,10 +18,10 @@ pub record SeenReading : Type 0 where
   pub mark : ℕ
   pub entries : List SeenEntry
 
--- what is seen of a call: its numbers, the readings left (none: consumed), and the error list, which was empty
+-- what is seen of a call: its numbers, the readings left (`just []`: consumed; `nothing`: the buffer is no state), and the error list, which was empty
 pub record Outcome : Type 0 where
   pub says : FeedNumbers
-  pub readings : List SeenReading
+  pub readings : Maybe (List SeenReading)
   pub errors : List ErrorRecord
 
 pub record Run : Type 0 where
@@ -32,9 +32,9 @@ pub record Run : Type 0 where
 abbrev pub seenReading : Reading → SeenReading
 seenReading r = record { mark = r .mark; entries = reverse (map seen (r .stack)) }
 
-abbrev pub seenState : State → List SeenReading
-seenState nothing = []
-seenState (just rs) = map seenReading rs
+abbrev pub seenState : State → Maybe (List SeenReading)
+seenState nothing = nothing
+seenState (just rs) = just (map seenReading rs)
 
 abbrev pub started : StartCall → Outcome
 started c = record { says = record { answer = c .answer; errors = 0; walked = 0 }; readings = seenState (c .state); errors = [] }
@@ -72,7 +72,7 @@ abbrev says : (answer errors walked : ℕ) → FeedNumbers
 says a e w = record { answer = a; errors = e; walked = w }
 
 abbrev run : List ℕ → List Term → FeedNumbers → List SeenReading → List ErrorRecord → Run
-run t xs a rs es = record { table = t; terms = xs; leaves = record { says = a; readings = rs; errors = es } }
+run t xs a rs es = record { table = t; terms = xs; leaves = record { says = a; readings = just rs; errors = es } }
 
 -- the start entry of all three tables
 abbrev one : SeenEntry

@@ -16,6 +16,30 @@ pub const START_CLASS: u16 = 2;
 
 pub const FIRST_TERM: u16 = 3;
 
+// The eight limits, which the tests of every crate name, and the records of the error list.
+pub const MAX_STATES: u16 = 512;
+
+pub const MAX_CLASSES: u16 = 64;
+
+pub const MAX_NONTERMINALS: u16 = 64;
+
+pub const MAX_RULES: u16 = 256;
+
+pub const MAX_READINGS: u16 = 16;
+
+pub const MAX_HEIGHT: u16 = 64;
+
+pub const MAX_CHAIN: usize = 32;
+
+pub const MAX_WALKED: usize = 1024;
+
+pub const MAX_ERRORS: usize = 32;
+
+// A place for each height, and as many chains in a stage as readings may be left.
+pub const HEIGHTS: usize = MAX_HEIGHT as usize;
+
+pub const MAX_CHAINS: usize = MAX_READINGS as usize;
+
 // What is fed: a class, a value and a span.
 pub struct Term {
     pub class: u16,

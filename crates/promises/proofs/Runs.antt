@@ -9,7 +9,7 @@ use lib.Seq.{take-append-seam, drop-nil}
 use borrow.Author.Tests.{ltb-true}
 use Rattle.meaning.specs.Answers.{feedNumbers}
 use Rattle.meaning.specs.Applying.{actOn, spanStart, reduced, shifted, refusedAction, unplanned, apply}
-use Rattle.meaning.specs.Basics.{if_then_else_, both, nothing, just, isNil, every, AllOf, find}
+use Rattle.meaning.specs.Basics.{Maybe, if_then_else_, both, nothing, just, isNil, every, AllOf, find}
 use Rattle.meaning.specs.Bounds.{maxBirths}
 use Rattle.meaning.specs.Bytes.{u16At, u32At}
 use Rattle.meaning.specs.Calls.{State, checkState, StartCall, startCall, wrongClass, wrongTerm, FeedCall, feedRefused, feedEnded, feedRight, feedCall}
@@ -17,7 +17,7 @@ use Rattle.meaning.specs.Chains.{recordAt}
 use Rattle.meaning.specs.Feeding.{planAll, applyAll, settle, first, feed}
 use Rattle.meaning.specs.Identities.{renEntry, renReading}
 use Rattle.meaning.specs.Kinds.{act}
-use Rattle.meaning.specs.KnownRuns.{Outcome, Run, seenReading, seenState, started, fed, feedAll, outcome, knownRuns}
+use Rattle.meaning.specs.KnownRuns.{SeenReading, Outcome, Run, seenReading, seenState, started, fed, feedAll, outcome, knownRuns}
 use Rattle.meaning.specs.Outcome.{Fed}
 use Rattle.meaning.specs.Readings.{Entry, Reading, seen, holds, heldBy, startReading}
 use Rattle.meaning.specs.Recovery.{errorTerm, isHeld, recoverOne, recoverAll, longerTop, stays, takeTerm, recover}
@@ -91,7 +91,7 @@ seen-same : (s s′ : State) → SameState s s′ → seenState s′ ≡ seenSta
 seen-same nothing nothing h = refl
 seen-same nothing (just rs) h = absurd h
 seen-same (just rs) nothing h = absurd h
-seen-same (just rs) (just rs′) h = ap (map seenReading) (h .same) ∙ seen-readings (h .rename) rs
+seen-same (just rs) (just rs′) h = ap {B = Maybe (List SeenReading)} just (ap (map seenReading) (h .same) ∙ seen-readings (h .rename) rs)
 
 -- One feed, from the definition's readings and from a buffer's.
 

@@ -11,6 +11,7 @@ use super::Stage;
 use actions::Counts;
 use actions::Top;
 use cells::Cell;
+use meaning::MAX_CHAINS;
 use meaning::Refusal;
 use meaning::Term;
 use meaning::View;
@@ -81,7 +82,7 @@ fn take_or_stay(
         Taking::Refused(refusal) => Stage::Stopped(refusal),
         Taking::Took(so) => Stage::Came(so),
         Taking::Not(so) => {
-            if so.chains >= 16 {
+            if so.chains >= MAX_CHAINS {
                 return Stage::Stopped(Refusal::TooManyReadings);
             }
             Stage::Came(stay(&mut *work, reading, term.end, so))

@@ -1,11 +1,11 @@
 // The calls on a state, and what is said of their answers.
 use super::commands::Call;
+use by_value::reading;
+use by_value::running;
 use console::State;
 use console::Work;
 use console::saying;
 use console::words;
-use covered::reading;
-use covered::running;
 use lists::Entries;
 use lists::Errors;
 use machine::Machine;

@@ -15,7 +15,7 @@ fn slot_right(buffer: &[u8], cells: u16, states: u16, at: usize, i: u16) -> bool
     if x.height == 0 {
         return false;
     }
-    if x.height > crate::MAX_HEIGHT {
+    if x.height > meaning::MAX_HEIGHT {
         return false;
     }
     cells::linked_from(buffer, cells, states, x.height, slot.top)

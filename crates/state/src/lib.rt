@@ -11,16 +11,13 @@ ghost use Rattle.state.specs.Check.{slotsRight, validState, SlotsReady};
 ghost use Rattle.state.specs.Areas.{loaded, LoadReady, Started};
 use cells::Cell;
 use meaning::CellNo;
+use meaning::MAX_READINGS;
 use meaning::StateNo;
 
 mod check;
 
 // The state buffer: cells, reading slots, the number of readings, the number of cells in use.
 pub const STATE_CELLS: u16 = 1024;
-
-pub const MAX_READINGS: u16 = 16;
-
-pub const MAX_HEIGHT: u16 = 64;
 
 pub const READINGS_AT: usize = 18432;
 

@@ -15,11 +15,6 @@ mod gotos;
 mod reading;
 mod rules;
 
-pub use frame::MAX_CLASSES;
-pub use frame::MAX_NONTERMINALS;
-pub use frame::MAX_RULES;
-pub use frame::MAX_STATES;
-
 pub enum Checked {
     Wrong,
     Right(View),

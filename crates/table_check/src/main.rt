@@ -69,10 +69,10 @@ fn check_arguments() {
 }
 
 fn main() {
-    print_check(b"T1", &known::t1());
-    print_check(b"T2", &known::t2());
-    print_check(b"T4", &known::t4());
+    print_check(b"T1", &known_tables::t1());
+    print_check(b"T2", &known_tables::t2());
+    print_check(b"T4", &known_tables::t4());
     check_arguments();
-    sweep::check_prefixes(&known::t1());
-    sweep::check_changes(known::t1());
+    sweep::check_prefixes(&known_tables::t1());
+    sweep::check_changes(known_tables::t1());
 }

@@ -7,6 +7,7 @@ use actions::Counts;
 use actions::Top;
 use applying::apply_reading;
 use chains::Planned;
+use meaning::MAX_CHAINS;
 use meaning::Refusal;
 use meaning::Term;
 use meaning::View;
@@ -54,7 +55,15 @@ pub fn take_reading(
     ensures { λ r. ⌜ TakingIs (tableOf (now (table .entry))) term list (now (work .entry)) reading so (now (work .exit)) r ⌝ }
 {
     let before = so.chains;
-    let planned = applying::plan_reading(table, view, &mut *work, 16, term.class, reading, before);
+    let planned = applying::plan_reading(
+        table,
+        view,
+        &mut *work,
+        MAX_CHAINS,
+        term.class,
+        reading,
+        before,
+    );
     match planned {
         Planned::Refused(refusal) => Taking::Refused(refusal),
         Planned::Walked { walked, chains } => {

@@ -1,4 +1,4 @@
--- `Machine::feed` meets its contract: a walk of its MIR, by hand. The three byte slices go to `running::feed_of`, the covered work, and the lent list to `errors::fill`, each at its own lifetime and for good. The table is copied first.
+-- `Machine::feed` meets its contract: a walk of its MIR, by hand. The three byte slices go to `by_value::running::feed_of`, and the lent list to `errors::fill`, each at its own lifetime and for good. The table is copied first.
 --     exits        from what is had at exit to the contract's `post`
 -- Assumes nothing.
 use mathlib.Core.Path.{_≡_, refl, ap}
@@ -57,15 +57,15 @@ use Rattle.lists.proofs.errors.fill as fill
 use Rattle.lists.proofs.errors.fill.Symbol as fill-def
 use Rattle.lists.proofs.errors.fill.Symbol.{name as #fill}
 use Rattle.lists.proofs.errors.fill.Met as fill-thm
-use Rattle.covered.specs.Feeding.{RunPromise}
-use Rattle.covered.specs.declared.running.FeedRun.{FeedRun}
-use Rattle.covered.proofs.Feeds.{feed-filled}
-use Rattle.covered.proofs.running.FeedRun as I
-use Rattle.covered.proofs.running.FeedRun.Laws as I′
-use Rattle.covered.proofs.running.feed_of as inner
-use Rattle.covered.proofs.running.feed_of.Symbol as inner-def
-use Rattle.covered.proofs.running.feed_of.Symbol.{name as #feed-of}
-use Rattle.covered.proofs.running.feed_of.Met as inner-thm
+use Rattle.by_value.specs.Feeding.{RunPromise}
+use Rattle.by_value.specs.declared.running.FeedRun.{FeedRun}
+use Rattle.by_value.proofs.Feeds.{feed-filled}
+use Rattle.by_value.proofs.running.FeedRun as I
+use Rattle.by_value.proofs.running.FeedRun.Laws as I′
+use Rattle.by_value.proofs.running.feed_of as inner
+use Rattle.by_value.proofs.running.feed_of.Symbol as inner-def
+use Rattle.by_value.proofs.running.feed_of.Symbol.{name as #feed-of}
+use Rattle.by_value.proofs.running.feed_of.Met as inner-thm
 use Rattle.machine.proofs.Machine.feed.Key.{name as #feed}
 use Rattle.machine.proofs.Machine.feed as f
 use Rattle.machine.proofs.Machine.feed.Statement as stated
@@ -240,5 +240,5 @@ feed-spec 𝓤 H 𝓜 𝓖 𝓡 =
     entered 𝓤 H (tripleOf 𝓤 H (𝓖 .A) f.signature (f.spec 𝓤 H (𝓖 .A) (𝓜 .mem) (𝓡 .run)))
     (tables 𝓤 H 𝓜 𝓡 code.env .C) (tables 𝓤 H 𝓜 𝓡 code.env .Λ) #feed code.function (code.unfolded 𝓤 H 𝓜 𝓡)
     (feed-meets 𝓤 H (𝓖 .A) (givenOf 𝓤 H 𝓜 𝓖) (𝓜 .mem) (𝓡 .run) (tablesOf 𝓤 H 𝓜 (tables 𝓤 H 𝓜 𝓡 code.env))
-    (cited 𝓤 H (InnerOf 𝓤 H (𝓖 .A) (𝓜 .mem) (𝓡 .run)) 𝓜 𝓡 code.env #feed-of inner-def.routine code.calls-covered·running·feed-of (inner-thm.met 𝓤 H 𝓜 𝓖 𝓡))
+    (cited 𝓤 H (InnerOf 𝓤 H (𝓖 .A) (𝓜 .mem) (𝓡 .run)) 𝓜 𝓡 code.env #feed-of inner-def.routine code.calls-by-value·running·feed-of (inner-thm.met 𝓤 H 𝓜 𝓖 𝓡))
     (cited 𝓤 H (FillOf 𝓤 H (𝓖 .A) (𝓜 .mem) (𝓡 .run)) 𝓜 𝓡 code.env #fill fill-def.routine code.calls-lists·errors·fill (fill-thm.met 𝓤 H 𝓜 𝓖 𝓡)))

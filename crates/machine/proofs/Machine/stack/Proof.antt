@@ -1,4 +1,4 @@
--- `Machine::stack` meets its contract: a walk of its MIR, by hand. The table and the state are copied and one of each goes to `reading::stack_of`, the covered work; the lent list goes to `entries::fill`, for good.
+-- `Machine::stack` meets its contract: a walk of its MIR, by hand. The table and the state are copied and one of each goes to `by_value::reading::stack_of`; the lent list goes to `entries::fill`, for good.
 --     stack-said   of `stack_of`'s `ensured`, the clause alone
 --     exits        from what is had at exit to the contract's `post`
 -- Assumes nothing.
@@ -57,15 +57,15 @@ use Rattle.lists.proofs.entries.fill.Symbol.{name as #fill}
 use Rattle.lists.proofs.entries.fill.Met as fill-thm
 use Rattle.promises.specs.Buffers.{listsRight}
 use Rattle.promises.specs.Calls.{stackOn}
-use Rattle.covered.specs.Reading.{ReadPromise}
-use Rattle.covered.specs.declared.reading.StackRead.{StackRead}
-use Rattle.covered.proofs.Stacks.{stack-filled}
-use Rattle.covered.proofs.reading.StackRead as I
-use Rattle.covered.proofs.reading.StackRead.Laws as I′
-use Rattle.covered.proofs.reading.stack_of as inner
-use Rattle.covered.proofs.reading.stack_of.Symbol as inner-def
-use Rattle.covered.proofs.reading.stack_of.Symbol.{name as #stack-of}
-use Rattle.covered.proofs.reading.stack_of.Met as inner-thm
+use Rattle.by_value.specs.Reading.{ReadPromise}
+use Rattle.by_value.specs.declared.reading.StackRead.{StackRead}
+use Rattle.by_value.proofs.Stacks.{stack-filled}
+use Rattle.by_value.proofs.reading.StackRead as I
+use Rattle.by_value.proofs.reading.StackRead.Laws as I′
+use Rattle.by_value.proofs.reading.stack_of as inner
+use Rattle.by_value.proofs.reading.stack_of.Symbol as inner-def
+use Rattle.by_value.proofs.reading.stack_of.Symbol.{name as #stack-of}
+use Rattle.by_value.proofs.reading.stack_of.Met as inner-thm
 use Rattle.machine.proofs.Machine.stack.Key.{name as #stack}
 use Rattle.machine.proofs.Machine.stack as f
 use Rattle.machine.proofs.Machine.stack.Statement as stated
@@ -244,5 +244,5 @@ stack-spec 𝓤 H 𝓜 𝓖 𝓡 =
     entered 𝓤 H (tripleOf 𝓤 H (𝓖 .A) f.signature (f.spec 𝓤 H (𝓖 .A) (𝓜 .mem) (𝓡 .run)))
     (tables 𝓤 H 𝓜 𝓡 code.env .C) (tables 𝓤 H 𝓜 𝓡 code.env .Λ) #stack code.function (code.unfolded 𝓤 H 𝓜 𝓡)
     (stack-meets 𝓤 H (𝓖 .A) (givenOf 𝓤 H 𝓜 𝓖) (𝓜 .mem) (𝓡 .run) (tablesOf 𝓤 H 𝓜 (tables 𝓤 H 𝓜 𝓡 code.env))
-    (cited 𝓤 H (InnerOf 𝓤 H (𝓖 .A) (𝓜 .mem) (𝓡 .run)) 𝓜 𝓡 code.env #stack-of inner-def.routine code.calls-covered·reading·stack-of (inner-thm.met 𝓤 H 𝓜 𝓖 𝓡))
+    (cited 𝓤 H (InnerOf 𝓤 H (𝓖 .A) (𝓜 .mem) (𝓡 .run)) 𝓜 𝓡 code.env #stack-of inner-def.routine code.calls-by-value·reading·stack-of (inner-thm.met 𝓤 H 𝓜 𝓖 𝓡))
     (cited 𝓤 H (FillOf 𝓤 H (𝓖 .A) (𝓜 .mem) (𝓡 .run)) 𝓜 𝓡 code.env #fill fill-def.routine code.calls-lists·entries·fill (fill-thm.met 𝓤 H 𝓜 𝓖 𝓡)))

@@ -1,0 +1,3 @@
+-- What the calls by value ask inside and promise.
+pub mod Reading
+pub mod Feeding

@@ -1,5 +1,0 @@
--- Laws of the covered calls, and of the lent lists over them.
-pub mod Stacks
-pub mod Feeds
-pub mod RunParts
-pub mod Runs

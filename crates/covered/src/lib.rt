@@ -1,3 +1,0 @@
-// The covered calls: what lies under `Machine::feed` and `Machine::stack`, with the lists by value. For programs and exports.
-pub mod reading;
-pub mod running;
