@@ -1,6 +1,7 @@
 // The steps of applying, over the work area: one reduction with its action, one shift. Each appends what it gives birth to.
 ghost use mathlib.Core.Path.{_≡_};
 ghost use Prim.Native.Nat.{_≤_};
+ghost use Rattle.meaning.specs.Limits.{maxHeight};
 ghost use Rattle.meaning.specs.TableFile.{tableOf, gotoOf, target};
 ghost use Rattle.table.specs.Answers.{Belongs};
 ghost use Rattle.actions.specs.Acting.{Pops, shiftedCell};
@@ -64,7 +65,7 @@ fn base_state(work: &[u8], reading: Top, len: u16) -> StateNo
 
 // The cell of a reduction whose action gave `value`: its state is where the goto leads.
 fn born_cell(table: &[u8], view: View, work: &[u8], reading: Top, rule: Rule, value: u32) -> Cell
-    requires { ⌜ Belongs (now table) view × Pops (now work) reading (rule .len) × (reading .height ≤ 64) ⌝ }
+    requires { ⌜ Belongs (now table) view × Pops (now work) reading (rule .len) × (reading .height ≤ maxHeight) ⌝ }
     ensures { λ r. ⌜ r ≡ bornCell (tableOf (now (table .entry))) rule value (now (work .entry)) reading ⌝ }
 {
     let len = popping::high(rule.len);
@@ -153,7 +154,7 @@ pub fn reduce_one(
 
 // The cell of a term that is shifted.
 fn shifted_cell(term: Term, reading: Top, to: StateNo) -> Cell
-    requires { ⌜ reading .height ≤ 64 ⌝ }
+    requires { ⌜ reading .height ≤ maxHeight ⌝ }
     ensures { λ r. ⌜ r ≡ shiftedCell term reading (to .0) ⌝ }
 {
     let parent = reading.cell;

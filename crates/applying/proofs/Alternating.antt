@@ -20,6 +20,7 @@ use Rattle.chains.specs.declared.Planned.{Planned}
 use Rattle.chains.specs.declared.Planned.the-variants as planned
 use Rattle.chains.proofs.Following.{plans}
 use Rattle.actions.specs.Acting.{stackIn, readingIn}
+use Rattle.state.specs.Births.{FindsCells}
 use Rattle.state.specs.Readings.{slotAt, resultsOf}
 use Rattle.actions.specs.Errors.{errorsOf}
 use Rattle.actions.specs.Telling.{Area, Stands, RoomFor, Told}
@@ -78,14 +79,14 @@ module _ (list : ℕ) (w w′ : List ℕ) (n : Counts) (a : Area list w n) (g : 
         others = λ at j low high o. planted-slots at j low high;
       }
 
--- A planning that was not refused makes its reading ready: 33 births and one result or error for each of its chains are room enough.
+-- A planning that was not refused makes its reading ready: cells for its births and one result or error for each of its chains are room enough.
 module _ (s : List ℕ) (view : View) (list : ℕ) (x : Term) (r : Top) (n : Counts) (w w′ : List ℕ) (before : ℕ) (answer : Planned) (k ended : ℕ) where
   pub ready-planned : Belongs s view → Area list w n → Stands w r n → PlanDone (plan (tableOf s) 16 (x .class) (states (stackIn w r)) before) w w′ answer → answer ≡ planned.Walked k ended →
-      n .cells + 33 * ended ≤ 2096 + 33 * before → n .results + ended ≤ 16 + before → n .errors + ended ≤ 32 + before → ReadingReady s view w′ list x r n
-  ready-planned belongs a st d e hc hr he =
+      FindsCells (n .cells) before → n .results + ended ≤ 16 + before → n .errors + ended ≤ 32 + before → ReadingReady s view w′ list x r n
+  ready-planned belongs a st d e found hr he =
       let t = tableOf s in
       let p = plans t 16 (x .class) (states (stackIn w r)) before answer (marksOf w′) k ended (d .says) (d .holds) e in
-      let q = subst Ready (sym (planted-reading list w w′ n a (d .planted) r st)) (p, room-planned t x (readingIn w r) n before (p .walk) k ended (p .is) hc hr he) in
+      let q = subst Ready (sym (planted-reading list w w′ n a (d .planted) r st)) (p, room-planned t x (readingIn w r) n before (p .walk) k ended (p .is) found hr he) in
       record {
         belongs = belongs;
         area = planted-area list w w′ n a (d .planted);

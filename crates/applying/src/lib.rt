@@ -2,6 +2,7 @@
 ghost use mathlib.Core.Path.{_≡_};
 ghost use Prim.Native.Nat.{_<_};
 ghost use lib.ListN.{length};
+ghost use Rattle.meaning.specs.Limits.{maxWalked};
 ghost use Rattle.meaning.specs.Readings.{states};
 ghost use Rattle.meaning.specs.TableFile.{tableOf};
 ghost use Rattle.meaning.specs.Walk.{plan};
@@ -34,7 +35,7 @@ struct Rest {
 
 // How many chains end below the reduction with the mark numbered k.
 fn chains_below(work: &[u8], k: usize) -> usize
-    requires { ⌜ (k < 1024) × (length (now work) ≡ workLength) ⌝ }
+    requires { ⌜ (k < maxWalked) × (length (now work) ≡ workLength) ⌝ }
     ensures { λ r. ⌜ r ≡ chainsMark (marksOf (now (work .entry))) k ⌝ }
 {
     chains::chains_mark(&work[state::MARKS_AT..state::RESULTS_AT], k)
@@ -42,7 +43,7 @@ fn chains_below(work: &[u8], k: usize) -> usize
 
 // How many marks that reduction has, with those below it.
 fn marks_of_one(work: &[u8], k: usize) -> usize
-    requires { ⌜ (k < 1024) × (length (now work) ≡ workLength) ⌝ }
+    requires { ⌜ (k < maxWalked) × (length (now work) ≡ workLength) ⌝ }
     ensures { λ r. ⌜ r ≡ sizeMark (marksOf (now (work .entry))) k ⌝ }
 {
     chains::size_mark(&work[state::MARKS_AT..state::RESULTS_AT], k)

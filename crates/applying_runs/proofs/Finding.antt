@@ -15,6 +15,7 @@ use Rattle.cells.proofs.Stacks.{linked-claim}
 use Rattle.chains.specs.declared.Planned.{Planned}
 use Rattle.chains.specs.declared.Planned.the-variants as planned
 use Rattle.chains.proofs.Following.{plans}
+use Rattle.state.proofs.Births.{first-finds}
 use Rattle.actions.specs.Acting.{stackIn}
 use Rattle.actions.specs.Telling.{Area}
 use Rattle.actions.specs.declared.Counts.{Counts}
@@ -50,4 +51,4 @@ module _ (s : List ℕ) (view : View) (w : List ℕ) (r : Top) (cells : ℕ) (re
       let few = f .few in
       let p = plans (tableOf s) 16 (x .class) (states (stackIn w r)) 0 answer (marksOf w′) k ended (d .says) (d .holds) e in
       let most = p .fits (omega arith) in
-      ready-planned s view 41824 x r none w w′ 0 answer k ended (ready .belongs) area (f .stands) d e (omega arith) (omega arith) (omega arith)
+      ready-planned s view 41824 x r none w w′ 0 answer k ended (ready .belongs) area (f .stands) d e (first-finds cells few) (omega arith) (omega arith)

@@ -18,7 +18,7 @@ use meaning::Term;
 use meaning::View;
 use table::Checked;
 
-const ROOM: usize = 16;
+const ROOM: usize = meaning::MAX_CHAINS;
 
 fn say(text: &[u8]) {
     io::write_all(STDOUT_FILENO, text);
@@ -81,7 +81,7 @@ fn say_span(value: u32, start: u32, end: u32) {
 fn result_at(work: &[u8], i: u16) -> Top
     requires { ⌜ length (now work) ≡ workLength ⌝ }
 {
-    if 16 <= i {
+    if meaning::MAX_READINGS <= i {
         return Top {
             cell: CellNo(0),
             height: 0,
@@ -134,7 +134,7 @@ fn say_results(work: &[u8], count: u16)
 fn say_error(work: &[u8], i: u16)
     requires { ⌜ length (now work) ≡ workLength ⌝ }
 {
-    if 32 <= i {
+    if meaning::MAX_ERRORS <= i as usize {
         return;
     }
     let p = state::ERRORS_AT + actions::errors::ERROR_SIZE * (i as usize);
@@ -162,16 +162,22 @@ fn found(work: &[u8], reading: Top, counts: Counts) -> bool
     requires { ⌜ length (now work) ≡ workLength ⌝ }
     ensures { λ r. ⌜ (r ≡ true → Found (now (work .entry)) reading counts) ⌝ }
 {
-    if 1024 < counts.cells {
+    if state::STATE_CELLS < counts.cells {
         return false;
     }
     if reading.height == 0 {
         return false;
     }
-    if 64 < reading.height {
+    if meaning::MAX_HEIGHT < reading.height {
         return false;
     }
-    cells::linked_from(work, counts.cells, 512, reading.height, reading.cell)
+    cells::linked_from(
+        work,
+        counts.cells,
+        meaning::MAX_STATES,
+        reading.height,
+        reading.cell,
+    )
 }
 
 fn say_refused(refusal: Refusal) {
@@ -307,7 +313,7 @@ fn run_bytes(bytes: &[u8], value: u32) {
     match checked {
         Checked::Wrong => say(b"  wrong table\n"),
         Checked::Right(view) => {
-            let mut work = [0u8; 46464];
+            let mut work = [0u8; state::WORK_LENGTH];
             run_checked(bytes, view, value, &mut work);
         }
     }

@@ -24,7 +24,6 @@ use Rattle.state.specs.Readings.{usedOf, readingsOf}
 use Rattle.state.proofs.Loading.{length-loaded, loaded-cells}
 use Rattle.state.proofs.Valid.{count-few, used-few, all-stand}
 use Rattle.actions.specs.Errors.{errorsOf}
-use Rattle.actions.proofs.ErrorRecords.{length-errors}
 use Rattle.commit.specs.Committing.{Results, Commits}
 use Rattle.feeding.specs.Ending.{Holds, FirstReady, MustRecover, Settles, FirstIs, FedIs}
 use Rattle.feeding.specs.declared.Ended.{Ended}
@@ -74,17 +73,13 @@ module _ (state work : List ℕ) (e : Ended) (y : EndsReady state work e) where
       rw q (record {
         answers = numbers (e .taken);
         committed = c .promise;
-        errors-are = g .list-is;
-        few = g .few;
+        errors-are = g;
         long = l;
       })
     where
-      count : errors .count ≡ length (errorsOf work (e .counts .errors))
-      count = g .count-is ∙ sym (length-errors work 0 (e .counts .errors))
-
       numbers : (t : Bool) → feedNumbers (runOf t (e .walked) errors .answer) ≡ record { answer = if t then 0 else 12; errors = length (errorsOf work (e .counts .errors)); walked = e .walked }
-      numbers true = λ i. record { answer = 0; errors = count i; walked = e .walked }
-      numbers false = λ i. record { answer = 12; errors = count i; walked = e .walked }
+      numbers true = λ i. record { answer = 0; errors = g .count-is i; walked = e .walked }
+      numbers false = λ i. record { answer = 12; errors = g .count-is i; walked = e .walked }
 
 -- The stages.
 module _ (table : List ℕ) (view : View) (state work : List ℕ) (y : StagesReady table view state work) where

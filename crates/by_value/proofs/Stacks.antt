@@ -1,16 +1,16 @@
 -- The ways out of reading a stack, the cells of one by recursion, and what the loop over them has read. Assumes nothing.
-use mathlib.Core.Path.{_≡_, refl, sym, ap, _∙_}
+use mathlib.Core.Path.{_≡_, refl, sym, ap, _∙_, subst}
 use mathlib.Core.Bool.{Bool, true, false}
 use mathlib.Core.List.{List, [], _∷_, _++_, map}
 use Prim.Native.Nat.{ℕ, zero, suc, _+_, _-_, _*_, _<_, _≤_}
 use native.Mathlib.Omega.{arith}
 use lib.Dec.{eqb}
-use lib.ListN.{length, take, drop, getD, set, replicate, length-set, length-map, length-replicate}
-use lib.Seq.{sets, length-sets, sets-eq, take-at, getD-take, take-suc-set}
+use lib.ListN.{length, take, getD, set, replicate, length-map, length-replicate}
+use lib.Seq.{sets, length-sets, sets-eq, take-at, getD-take, length-take-le}
 use borrow.Author.Tests.{eqb-true, le-leb, lt-leb}
-use Rattle.meaning.specs.Answers.{stackNumbers}
 use Rattle.meaning.specs.Basics.{isNil}
-use Rattle.meaning.specs.Calls.{StackCall, stackRight, stackCall, stackRefused, stackRead, noReading, written}
+use Rattle.meaning.specs.Calls.{StackCall, stackRight, stackCall, stackRefused, stackRead, noReading}
+use Rattle.meaning.specs.Limits.{maxHeight}
 use Rattle.meaning.specs.Readings.{seen}
 use Rattle.meaning.specs.declared.Entry.{Entry as SeenEntry}
 use Rattle.meaning.specs.declared.Refusal.{Refusal}
@@ -22,8 +22,9 @@ use Rattle.cells.specs.Stacks.{Pool, entryAt, entriesOf, Linked, StackIn}
 use Rattle.cells.specs.declared.Cell.{Cell}
 use Rattle.meaning.proofs.Booleans.{both-left, both-false}
 use Rattle.cells.proofs.Stacks.{length-entries}
-use Rattle.lists.specs.Filling.{noEntry, stored, filled}
+use Rattle.lists.specs.Filling.{noEntry, padded, stored, filled}
 use Rattle.lists.specs.declared.entries.Entries.{Entries}
+use Rattle.lists.proofs.Laws.{padded-one}
 use Rattle.state.specs.Layout.{stateLength, readingsAt, slotSize}
 use Rattle.state.specs.Readings.{slotAt, topAt, heightAt, readingAt, readingsFrom, countOf, readingsOf, ListIn}
 use Rattle.state.specs.declared.Slot.{Slot}
@@ -31,14 +32,14 @@ use Rattle.state.proofs.Holding.{first-slot, top-room, top-stack}
 use Rattle.state.proofs.Lists.{length-readings, reading-numbered}
 use Rattle.state.proofs.Valid.{waiting-list}
 use Rattle.checks.specs.Checks.{foundOf}
-use Rattle.promises.specs.Buffers.{listsRight}
+use Rattle.promises.specs.Buffers.{listsRight, stateFor}
 use Rattle.promises.specs.Calls.{stackOn, StackPromise}
-use Rattle.by_value.specs.Reading.{cellsOf, ReadReady, EntriesRead, refusedRead, RightState, ReadPromise}
+use Rattle.by_value.specs.Reading.{noEntries, cellsOf, ReadReady, EntriesRead, refusedRead, RightState, ReadPromise}
 use Rattle.checks.specs.declared.Found.{Found}
 use Rattle.checks.specs.declared.Found.the-variants as found
 use Rattle.by_value.specs.declared.reading.StackRead.{StackRead}
-use Rattle.checks.proofs.Checks.{some-readings}
-use Rattle.checks.proofs.Checks.{right-for, checked-refused, checked-right}
+use Rattle.checks.proofs.Checks.{some-readings, right-for, checked-refused, checked-right}
+use Rattle.by_value.proofs.Listing.{filled-on, stack-lists}
 
 -- Check 1.
 module _ (state : List ℕ) (places : ℕ) (b : Bool) where
@@ -101,14 +102,13 @@ module _ (p : Pool) where
   seen-last (n ∷ l) zero h = refl
   seen-last (n ∷ l) (suc i) h = ap (λ (m : List SeenEntry). seenAt n ∷ m) (seen-last l i (omega arith))
 
--- what the loop keeps: the first i places hold what is seen of the first i cells
+-- what the loop keeps: the first i places hold what is seen of the first i cells, and no entry stands in any other
 pub record ReadTo (s : List ℕ) (height : ℕ) (numbers : List ℕ) (list : List SeenEntry) (i : ℕ) : Type 0 where
   pub few : i ≤ height
-  pub long : length list ≡ 64
-  pub front : take i list ≡ map (seenAt (cellAt s)) (take i numbers)
+  pub is : list ≡ padded maxHeight noEntry (map (seenAt (cellAt s)) (take i numbers))
 
 pub read-first : (s : List ℕ) (height : ℕ) (numbers : List ℕ) → ReadTo s height numbers (replicate 64 noEntry) 0
-read-first s height numbers = record { few = omega arith; long = length-replicate {A = SeenEntry} 64 noEntry; front = refl }
+read-first s height numbers = record { few = omega arith; is = refl }
 
 module _ (s : List ℕ) (height top : ℕ) (y : ReadReady s height top) (numbers : List ℕ) (e : numbers ≡ sets (replicate 64 0) 0 (cellsOf (cellAt s) height top)) where
   length-numbers : length numbers ≡ 64
@@ -131,20 +131,19 @@ module _ (s : List ℕ) (height top : ℕ) (y : ReadReady s height top) (numbers
   module _ (list : List SeenEntry) (i : ℕ) (g : ReadTo s height numbers list i) where
     pub read-more : (x : SeenEntry) → i < height → x ≡ seenAt (cellAt s) (getD numbers i 0) → ReadTo s height numbers (set list i x) (i + 1)
     read-more x h d =
-        let n = length-set list i x in
-        let l = g .long in
         let f = y .few in
         let k = length-numbers in
         let u : i + 1 ≡ suc i = omega arith in
+        let front : List SeenEntry = map (seenAt (cellAt s)) (take i numbers) in
+        let l : length front ≡ i = length-map (take i numbers) (seenAt (cellAt s)) ∙ length-take-le i numbers (omega arith) in
         record {
           few = omega arith;
-          long = omega arith;
-          front =
+          is =
               rw u
-              (take-suc-set list i x (omega arith)
-              ∙ ap (λ (front : List SeenEntry). front ++ (x ∷ [])) (g .front)
-              ∙ ap (λ (last : SeenEntry). map (seenAt (cellAt s)) (take i numbers) ++ (last ∷ [])) d
-              ∙ sym (seen-last (cellAt s) numbers i (omega arith)));
+              (ap (λ (m : List SeenEntry). set m i x) (g .is)
+              ∙ subst (λ (n : ℕ). set (padded 64 noEntry front) n x ≡ padded 64 noEntry (front ++ (x ∷ []))) l (padded-one front 64 noEntry x (omega arith))
+              ∙ ap (λ (last : SeenEntry). padded 64 noEntry (front ++ (last ∷ []))) d
+              ∙ ap (padded 64 noEntry) (sym (seen-last (cellAt s) numbers i (omega arith))));
         }
 
     pub read-all : height ≤ i → EntriesRead (seenOf (cellAt s) height top) (record { list = list; count = i })
@@ -152,22 +151,29 @@ module _ (s : List ℕ) (height top : ℕ) (y : ReadReady s height top) (numbers
         let f = g .few in
         let m = y .few in
         let z : i ≡ height = omega arith in
-        let front : take i list ≡ seenOf (cellAt s) height top =
-        g .front ∙ ap (λ (k : ℕ). map (seenAt (cellAt s)) (take k numbers)) z ∙ ap (map (seenAt (cellAt s))) all-numbers ∙ cells-seen (cellAt s) height top in
+        let all : map (seenAt (cellAt s)) (take i numbers) ≡ seenOf (cellAt s) height top =
+        ap (λ (k : ℕ). map (seenAt (cellAt s)) (take k numbers)) z ∙ ap (map (seenAt (cellAt s))) all-numbers ∙ cells-seen (cellAt s) height top in
         let l : length (seenOf (cellAt s) height top) ≡ i = length-map (entriesOf (cellAt s) height top) seen ∙ length-entries (cellAt s) height top ∙ sym z in
-        record { few = omega arith; list-is = λ ys. rw l (ap (λ (a : List SeenEntry). a ++ drop i ys) front) }
+        record { count-is = sym l; few = omega arith; list-is = g .is ∙ ap (padded 64 noEntry) all }
 
 -- The ways out.
-module _ (call : List SeenEntry → StackCall) (r : StackRead) (k : Refusal) (e : r ≡ refusedRead k) where
-  refused-promise : ((ys : List SeenEntry) → stackRefused ys k ≡ call ys) → ReadPromise call r
-  unfolding refusedRead
-  refused-promise f =
-      rw e (record { answers = λ ys. ap (λ (s : StackCall). s .says) (f ys); entries = λ ys. ap (λ (s : StackCall). s .entries) (f ys); few = omega arith })
+call-as : (call call′ : List SeenEntry → StackCall) (r : StackRead) → call (noEntries .list) ≡ call′ (noEntries .list) → ReadPromise call r → ReadPromise call′ r
+call-as call call′ r e p =
+    record {
+      answers = p .answers ∙ ap (λ (s : StackCall). s .says) e;
+      entries-are = p .entries-are ∙ ap (λ (s : StackCall). s .entries) e;
+      count-is = p .count-is ∙ ap (λ (s : StackCall). s .says .height) e;
+      few = p .few;
+    }
+
+refused-promise : (call : List SeenEntry → StackCall) (r : StackRead) (k : Refusal) → r ≡ refusedRead k → stackRefused (noEntries .list) k ≡ call (noEntries .list) → ReadPromise call r
+unfolding refusedRead
+refused-promise call r k e f = rw e (call-as (λ ys. stackRefused ys k) call (refusedRead k) f (record { answers = refl; entries-are = refl; count-is = refl; few = omega arith }))
 
 module _ (state : List ℕ) (number count : ℕ) (e : count ≡ countOf state) where
   pub stack-consumed : (r : StackRead) → r ≡ refusedRead Consumed → count ≡ 0 → ReadPromise (stackRight (readingsOf state) number) r
   unfolding stackRight readingsFrom
-  stack-consumed r f z = refused-promise (stackRight (readingsOf state) number) r Consumed f (λ ys. rw (← e, z))
+  stack-consumed r f z = refused-promise (stackRight (readingsOf state) number) r Consumed f (rw (← e, z))
 
   module _ (some : count ≡ 0 → ⊥) where
     not-nil : isNil (readingsOf state) ≡ false
@@ -177,15 +183,15 @@ module _ (state : List ℕ) (number count : ℕ) (e : count ≡ countOf state) w
     unfolding stackRight
     stack-none r f h =
         refused-promise (stackRight (readingsOf state) number) r WrongArgument f
-        (λ ys. rw (not-nil, length-readings state readingsAt 0 (countOf state), le-leb (countOf state) number (omega arith)))
+        (rw (not-nil, length-readings state readingsAt 0 (countOf state), le-leb (countOf state) number (omega arith)))
 
     module _ (y : RightState state) (h : number < count) where
       listed : ListIn state readingsAt number (count - number)
       listed = waiting-list (y .states) state (y .valid) (y .long) number (count - number) (omega arith)
 
-      stack-is : (ys : List SeenEntry) → stackRight (readingsOf state) number ys ≡ stackRead ys (readingAt state readingsAt number)
+      stack-is : stackRead (noEntries .list) (readingAt state readingsAt number) ≡ stackRight (readingsOf state) number (noEntries .list)
       unfolding stackRight
-      stack-is ys =
+      stack-is =
           let u : 0 + number ≡ number = omega arith in
           rw (not-nil, length-readings state readingsAt 0 (countOf state), lt-leb (countOf state) number (omega arith), reading-numbered state readingsAt 0 (countOf state) number noReading (omega arith), u)
 
@@ -204,26 +210,24 @@ module _ (state : List ℕ) (number count : ℕ) (e : count ≡ countOf state) w
                 stack = top-stack state readingsAt number (count - number) (λ z. omega arith) listed slot f x g;
               }
 
-          same-numbers : (ys : List SeenEntry) → stackNumbers (Read (x .height) (slot .mark)) ≡ stackRead ys (readingAt state readingsAt number) .says
-          same-numbers ys = rw (length-entries (cellAt state) (heightAt state readingsAt number) (topAt state readingsAt number), g, f)
-
-          same-entries : (ys : List SeenEntry) → written (seenOf (cellAt state) (x .height) (slot .top .0)) ys ≡ stackRead ys (readingAt state readingsAt number) .entries
-          same-entries ys = rw (g, f)
-
           pub stack-done : (r : Entries) → EntriesRead (seenOf (cellAt state) (x .height) (slot .top .0)) r → ReadPromise (stackRight (readingsOf state) number) (record { answer = Read (x .height) (slot .mark); entries = r })
           stack-done r d =
-              record {
-                answers = λ ys. same-numbers ys ∙ sym (ap (λ (s : StackCall). s .says) (stack-is ys));
-                entries = λ ys. d .list-is ys ∙ same-entries ys ∙ sym (ap (λ (s : StackCall). s .entries) (stack-is ys));
+              let h : x .height ≡ length (readingAt state readingsAt number .stack) =
+              rw (g, f) (sym (length-entries (cellAt state) (heightAt state readingsAt number) (topAt state readingsAt number))) in
+              let m : slot .mark ≡ readingAt state readingsAt number .mark = rw f in
+              call-as (λ ys. stackRead ys (readingAt state readingsAt number)) (stackRight (readingsOf state) number) (record { answer = Read (x .height) (slot .mark); entries = r }) stack-is (record {
+                answers = λ i. record { answer = 0; height = h i; mark = m i };
+                entries-are = d .list-is ∙ rw (g, f);
+                count-is = d .count-is ∙ rw (g, f) (length-map (readingAt state readingsAt number .stack) seen);
                 few = d .few;
-              }
+              })
 
 -- By what the checks find.
 module _ (table state : List ℕ) (number : ℕ) (q : Found) (says : q ≡ foundOf table state) where
   pub stack-refused : (k : Refusal) (r : StackRead) → q ≡ found.Refused k → r ≡ refusedRead k → ReadPromise (stackOn true table state number) r
   unfolding stackCall stackRight
   stack-refused k r e f =
-      refused-promise (stackOn true table state number) r k f (λ ys. checked-refused table state q says (stackRefused ys) (λ t rs. stackRight rs number ys) k e)
+      refused-promise (stackOn true table state number) r k f (checked-refused table state q says (stackRefused (noEntries .list)) (λ t rs. stackRight rs number (noEntries .list)) k e)
 
   module _ (v : View) (e : q ≡ found.Right v) where
     pub right-state : length state ≡ stateLength → RightState state
@@ -231,36 +235,42 @@ module _ (table state : List ℕ) (number : ℕ) (q : Found) (says : q ≡ found
 
     pub stack-found : (r : StackRead) → ReadPromise (stackRight (readingsOf state) number) r → ReadPromise (stackOn true table state number) r
     unfolding stackCall stackRight
-    stack-found r p =
-        let same : (ys : List SeenEntry) → stackRight (readingsOf state) number ys ≡ stackOn true table state number ys =
-        λ ys. checked-right table state v (right-for table state q says v e) (stackRefused ys) (λ t rs. stackRight rs number ys) in
-        record {
-          answers = λ ys. p .answers ys ∙ ap (λ (s : StackCall). s .says) (same ys);
-          entries = λ ys. p .entries ys ∙ ap (λ (s : StackCall). s .entries) (same ys);
-          few = p .few;
-        }
+    stack-found r =
+        call-as (stackRight (readingsOf state) number) (stackOn true table state number) r
+        (checked-right table state v (right-for table state q says v e) (stackRefused (noEntries .list)) (λ t rs. stackRight rs number (noEntries .list)))
 
 module _ (table state : List ℕ) (number places : ℕ) (b : Bool) (e : b ≡ listsRight state places) (r : StackRead) where
   pub stack-length : b ≡ false → r ≡ refusedRead WrongLength → ReadPromise (stackOn (listsRight state places) table state number) r
   unfolding stackCall
-  stack-length f g = refused-promise (stackOn (listsRight state places) table state number) r WrongLength g (λ ys. rw (← e, f))
+  stack-length f g = refused-promise (stackOn (listsRight state places) table state number) r WrongLength g (rw (← e, f))
 
   pub stack-long : b ≡ true → ReadPromise (stackOn true table state number) r → ReadPromise (stackOn (listsRight state places) table state number) r
   stack-long f p = rw (sym e ∙ f) p
 
--- The public call: what the call by value read goes into the lent list, which stays as it is where it has another length.
+-- The call by value is a public one: for every lent list, filled with the entries, what `Machine::stack` promises.
 lists-short : (state : List ℕ) (places : ℕ) → eqb places 64 ≡ false → listsRight state places ≡ false
 unfolding listsRight
 lists-short state places e = rw (e, both-false (eqb (length state) 18532))
 
-kept-list : (table state : List ℕ) (number : ℕ) (ys : List SeenEntry) → ys ≡ stackOn false table state number ys .entries
+no-height : (table state : List ℕ) (number : ℕ) → stackOn false table state number (noEntries .list) .says .height ≡ 0
 unfolding stackCall
-kept-list table state number ys = refl
+no-height table state number = refl
 
 module _ (table state : List ℕ) (number : ℕ) (ys : List SeenEntry) (r : StackRead) (p : ReadPromise (stackOn (listsRight state (length ys)) table state number) r) where
-  filled-by : (b : Bool) → eqb (length ys) 64 ≡ b → filled (r .entries .list) ys (stored 64 (length ys) (r .entries .count)) ≡ stackOn (listsRight state (length ys)) table state number ys .entries
-  filled-by true e = rw (e, le-leb (r .entries .count) 64 (p .few)) (p .entries ys)
-  filled-by false e = rw (e, lists-short state (length ys) e) (kept-list table state number ys)
+  pub stack-listed : StackPromise table state number ys (r .answer) (filled (r .entries .list) ys (r .entries .count))
+  stack-listed =
+      let l = stack-lists (listsRight state (length ys)) table (stateFor table state) number in
+      record {
+        answers = p .answers ∙ l .same (noEntries .list) ys;
+        entries-are = rw (p .entries-are, p .count-is) (filled-on _ _ _ (stackOn (listsRight state (length ys)) table state number) l (noEntries .list) ys);
+      }
+
+  -- where the list has another length, there are no entries to be stored
+  all-stored : (b : Bool) → eqb (length ys) 64 ≡ b → stored 64 (length ys) (r .entries .count) ≡ r .entries .count
+  all-stored true e = rw (e, le-leb (r .entries .count) 64 (p .few))
+  all-stored false e = rw e (sym (p .count-is ∙ rw (lists-short state (length ys) e) (no-height table state number)))
 
   pub stack-filled : (n : ℕ) (zs : List SeenEntry) → n ≡ stored 64 (length ys) (r .entries .count) → zs ≡ filled (r .entries .list) ys n → StackPromise table state number ys (r .answer) zs
-  stack-filled n zs e f = record { answers = p .answers ys; entries-are = f ∙ ap (filled (r .entries .list) ys) e ∙ filled-by (eqb (length ys) 64) refl }
+  stack-filled n zs e f =
+      let is : zs ≡ filled (r .entries .list) ys (r .entries .count) = f ∙ ap (filled (r .entries .list) ys) (e ∙ all-stored (eqb (length ys) 64) refl) in
+      subst (StackPromise table state number ys (r .answer)) (sym is) stack-listed

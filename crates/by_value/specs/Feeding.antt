@@ -1,4 +1,4 @@
--- What the feed by value asks and promises: the public promise, with the error records by value for a lent list of so many places, whatever it holds.
+-- What the feed by value asks and promises: the public promise, where the array by value is what becomes of a lent list without records.
 use mathlib.Core.Path.{_≡_}
 use mathlib.Core.Bool.{Bool, true}
 use mathlib.Core.List.{List}
@@ -7,17 +7,16 @@ use lib.ListN.{length}
 use Rattle.meaning.specs.Answers.{done, notTaken, feedNumbers}
 use Rattle.meaning.specs.Basics.{if_then_else_}
 use Rattle.meaning.specs.Bounds.{maxWalkedByFeed}
-use Rattle.meaning.specs.Calls.{FeedCall, feedRight, feedCall, written}
+use Rattle.meaning.specs.Calls.{FeedCall, feedRight, feedCall}
 use Rattle.meaning.specs.Limits.{maxErrors}
 use Rattle.meaning.specs.Outcome.{Fed}
 use Rattle.meaning.specs.TableFile.{tableOf}
-use Rattle.meaning.specs.declared.ErrorRecord.{ErrorRecord}
 use Rattle.meaning.specs.declared.FeedAnswer.the-variants.{Done, NotTaken, Refused}
 use Rattle.meaning.specs.declared.Refusal.{Refusal}
 use Rattle.meaning.specs.declared.Term.{Term}
 use Rattle.meaning.specs.declared.View.{View}
 use Rattle.table.specs.Answers.{Belongs}
-use Rattle.lists.specs.Filling.{filled}
+use Rattle.lists.specs.Filling.{noRecord, ByValue}
 use Rattle.lists.specs.declared.errors.Errors.{Errors}
 use Rattle.state.specs.Check.{validState}
 use Rattle.state.specs.Layout.{stateLength, workLength}
@@ -62,22 +61,23 @@ pub record EndsReady (state work : List ℕ) (e : Ended) : Type 0 where
 pub record EndedRun (f : Fed) (state : List ℕ) (r : FeedRun) (state′ : List ℕ) : Type 0 where
   pub answers : feedNumbers (r .answer) ≡ record { answer = f .answer; errors = length (f .errors); walked = f .walked }
   pub committed : Committed (f .readings) state state′
-  pub errors-are : (ys : List ErrorRecord) → filled (r .errors .list) ys (r .errors .count) ≡ written (f .errors) ys
-  pub few : r .errors .count ≤ maxErrors
+  pub errors-are : ByValue maxErrors noRecord (f .errors) (r .errors .list) (r .errors .count)
   pub long : length state′ ≡ length state
 
--- feed, on a table and a state that were found right, and on buffers of the right lengths
-abbrev pub feedIn : (table state : List ℕ) → Term → List ErrorRecord → FeedCall
-feedIn table state x ys = feedRight (tableOf table) x (readingsOf state) ys (usedOf state)
+-- feed of a list without records, on a table and a state that were found right, and on buffers of the right lengths
+abbrev pub feedIn : (table state : List ℕ) → Term → FeedCall
+feedIn table state x = feedRight (tableOf table) x (readingsOf state) (noErrors .list) (usedOf state)
 
-abbrev pub feedLine : (table state : List ℕ) → Term → List ErrorRecord → FeedCall
-feedLine table state x ys = feedCall true table (stateFor table state) x ys (usedOf state)
+abbrev pub feedLine : (table state : List ℕ) → Term → FeedCall
+feedLine table state x = feedCall true table (stateFor table state) x (noErrors .list) (usedOf state)
 
--- What a call answers and leaves, for whatever the lent list holds.
-pub record RunLine (table state : List ℕ) (call : List ErrorRecord → FeedCall) (r : FeedRun) (state′ : List ℕ) : Type 0 where
-  pub leaves : (ys : List ErrorRecord) → FeedLeaves table state (call ys) (r .answer) state′ (filled (r .errors .list) ys (r .errors .count))
+-- What a call answers and leaves: the array by value is the list that the definition leaves, with its count beside it.
+pub record RunLine (table state : List ℕ) (call : FeedCall) (r : FeedRun) (state′ : List ℕ) : Type 0 where
+  pub leaves : FeedLeaves table state call (r .answer) state′ (r .errors .list)
+  pub count-is : r .errors .count ≡ call .says .errors
   pub few : r .errors .count ≤ maxErrors
 
+-- for a lent list of so many places
 pub record RunPromise (table state work : List ℕ) (x : Term) (places : ℕ) (r : FeedRun) (state′ work′ : List ℕ) : Type 0 where
-  pub line : RunLine table state (feedFor table state work x places) r state′
+  pub line : RunLine table state (feedFor table state work x places (noErrors .list)) r state′
   pub cleared : work′ ≡ workAfter (feedLengths state work places) work

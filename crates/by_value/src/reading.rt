@@ -6,6 +6,7 @@ ghost use Prim.Native.Nat.{_+_, _≤_};
 ghost use lib.ListN.{length};
 ghost use lib.Seq.{sets};
 ghost use Rattle.meaning.specs.Calls.{stackRight};
+ghost use Rattle.meaning.specs.Limits.{maxHeight};
 ghost use Rattle.meaning.specs.Readings.{seen};
 ghost use Rattle.cells.specs.Pool.{cellAt};
 ghost use Rattle.cells.specs.Stacks.{entriesOf, StackIn};
@@ -64,7 +65,7 @@ fn numbers_from(
     at: usize,
     old: [u16; HEIGHTS],
 ) -> [u16; HEIGHTS]
-    requires { ⌜ (at + height ≤ 64) × StackIn (now state) height (top .0) ⌝ }
+    requires { ⌜ (at + height ≤ maxHeight) × StackIn (now state) height (top .0) ⌝ }
     ensures { λ r. ⌜ r ≡ sets old at (cellsOf (cellAt (now (state .entry))) height (top .0)) ⌝ }
 {
     if height == 0 {

@@ -4,6 +4,7 @@ ghost use mathlib.Core.List.{reverse};
 ghost use Prim.Native.Nat.{_+_, _*_, _<_, _≤_};
 ghost use lib.ListN.{length};
 ghost use Rattle.meaning.specs.Calls.{written};
+ghost use Rattle.meaning.specs.Limits.{maxHeight};
 ghost use Rattle.meaning.specs.Readings.{holds, seen, states};
 ghost use Rattle.cells.specs.Pool.{cellSize, cellAt, putCell};
 ghost use Rattle.cells.specs.Stacks.{entryAt, entriesOf, downFrom, linked, StackIn};
@@ -129,7 +130,7 @@ pub fn holds_cell(pool: &[u8], height: u16, top: CellNo, c: CellNo) -> bool
 
 // The states of a stack, the lowest first; the places above the height are kept.
 pub fn states_into(pool: &[u8], height: u16, top: CellNo, old: [u16; HEIGHTS]) -> [u16; HEIGHTS]
-    requires { ⌜ (height ≤ 64) × StackIn (now pool) height (top .0) ⌝ }
+    requires { ⌜ (height ≤ maxHeight) × StackIn (now pool) height (top .0) ⌝ }
     ensures { λ r. ⌜ r ≡ written (reverse (states (entriesOf (cellAt (now (pool .entry))) height (top .0)))) old ⌝ }
 {
     if height == 0 {

@@ -1,18 +1,19 @@
 // Whether one stack can be planned, and whether one can be at some height: the core of the three questions.
 ghost use mathlib.Core.Path.{_≡_};
 ghost use Rattle.meaning.specs.TableFile.{tableOf};
-ghost use Rattle.meaning.specs.Questions.{canPlan, recoversFrom};
+ghost use Rattle.meaning.specs.Questions.{enoughRoom, canPlan, recoversFrom};
 ghost use Rattle.chains.specs.Simulated.{stackOf};
 ghost use Rattle.chains.specs.Planning.{Asks};
 use super::Planned;
 use super::plan;
 use meaning::ERROR_CLASS;
 use meaning::HEIGHTS;
+use meaning::MAX_WALKED;
 use meaning::QuestionAnswer;
 use meaning::View;
 
 // No walk needs more room, so a question is never refused for want of it.
-const ENOUGH_ROOM: usize = 1025;
+const ENOUGH_ROOM: usize = MAX_WALKED + 1;
 
 // Whether a stack can be planned at a class.
 pub fn can_plan(
@@ -23,7 +24,7 @@ pub fn can_plan(
     height: usize,
     marks: &mut [u8],
 ) -> QuestionAnswer
-    requires { ⌜ Asks (now table) view 1025 height 0 (now marks) ⌝ }
+    requires { ⌜ Asks (now table) view enoughRoom height 0 (now marks) ⌝ }
     ensures { λ r. ⌜ r ≡ canPlan (tableOf (now (table .entry))) class (stackOf stack height) ⌝ }
 {
     let planned = plan(table, view, ENOUGH_ROOM, class, stack, height, 0, marks);
@@ -46,7 +47,7 @@ pub fn recovers_from(
     height: usize,
     marks: &mut [u8],
 ) -> QuestionAnswer
-    requires { ⌜ Asks (now table) view 1025 height 0 (now marks) ⌝ }
+    requires { ⌜ Asks (now table) view enoughRoom height 0 (now marks) ⌝ }
     ensures { λ r. ⌜ r ≡ recoversFrom (tableOf (now (table .entry))) (stackOf stack height) ⌝ }
 {
     let mut left = height;

@@ -3,7 +3,7 @@ ghost use mathlib.Core.Path.{_≡_};
 ghost use Rattle.meaning.specs.TableFile.{tableOf};
 ghost use Rattle.meaning.specs.Readings.{states};
 ghost use Rattle.meaning.specs.Walk.{plan};
-ghost use Rattle.meaning.specs.Questions.{canPlan, recoversFrom};
+ghost use Rattle.meaning.specs.Questions.{enoughRoom, canPlan, recoversFrom};
 ghost use Rattle.cells.specs.Pool.{cellAt};
 ghost use Rattle.cells.specs.Stacks.{entriesOf};
 ghost use Rattle.chains.specs.Marks.{MarksHold};
@@ -84,7 +84,7 @@ pub fn can_plan_stack(
     class: u16,
     marks: &mut [u8],
 ) -> QuestionAnswer
-    requires { ⌜ StackAsks (now table) view (now pool) height (top .0) 1025 0 (now marks) ⌝ }
+    requires { ⌜ StackAsks (now table) view (now pool) height (top .0) enoughRoom 0 (now marks) ⌝ }
     ensures { λ r. ⌜ r ≡ canPlan (tableOf (now (table .entry))) class (states (entriesOf (cellAt (now (pool .entry))) height (top .0))) ⌝ }
 {
     let stack = cells::states_into(pool, height, top, [0; HEIGHTS]);
@@ -100,7 +100,7 @@ pub fn recovers_stack(
     top: CellNo,
     marks: &mut [u8],
 ) -> QuestionAnswer
-    requires { ⌜ StackAsks (now table) view (now pool) height (top .0) 1025 0 (now marks) ⌝ }
+    requires { ⌜ StackAsks (now table) view (now pool) height (top .0) enoughRoom 0 (now marks) ⌝ }
     ensures { λ r. ⌜ r ≡ recoversFrom (tableOf (now (table .entry))) (states (entriesOf (cellAt (now (pool .entry))) height (top .0))) ⌝ }
 {
     let stack = cells::states_into(pool, height, top, [0; HEIGHTS]);

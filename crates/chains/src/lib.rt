@@ -1,7 +1,9 @@
 // One planning: the whole walk of one stack at one class, with its refusals and counts, and the marks by which it is followed.
 ghost use mathlib.Core.Path.{_≡_};
-ghost use Prim.Native.Nat.{_-_, _<_, _≤_};
+ghost use Prim.Native.Nat.{_-_, _*_, _<_, _≤_};
 ghost use lib.ListN.{length};
+ghost use Rattle.meaning.specs.Limits.{maxWalked};
+ghost use Rattle.meaning.specs.Questions.{enoughRoom};
 ghost use Rattle.meaning.specs.TableFile.{tableOf};
 ghost use Rattle.meaning.specs.Walk.{plan};
 ghost use Rattle.chains.specs.Simulated.{stackOf};
@@ -51,7 +53,7 @@ fn too_high(action: Action, height: usize) -> bool
 
 // The end of a rule list: the shift ends a chain, if there is room for one more.
 fn end_chain(action: Action, room: usize, at: Progress) -> Planned
-    requires { ⌜ at .chains ≤ 1025 ⌝ }
+    requires { ⌜ at .chains ≤ enoughRoom ⌝ }
     ensures { λ r. ⌜ r ≡ planOf (endsAs action room at) ⌝ }
 {
     let walked = at.walked;
@@ -81,7 +83,7 @@ fn put_mark(marks: &mut [u8], at: Progress, after: Progress)
 
 // How many chains end below the reduction with the mark numbered k.
 pub fn chains_mark(marks: &[u8], k: usize) -> usize
-    requires { ⌜ (k < 1024) × (4096 ≤ length (now marks)) ⌝ }
+    requires { ⌜ (k < maxWalked) × (4 * maxWalked ≤ length (now marks)) ⌝ }
     ensures { λ r. ⌜ r ≡ chainsMark (now (marks .entry)) k ⌝ }
 {
     numbers::get16(marks, k * 4) as usize
@@ -89,7 +91,7 @@ pub fn chains_mark(marks: &[u8], k: usize) -> usize
 
 // How many marks that reduction has, with those below it.
 pub fn size_mark(marks: &[u8], k: usize) -> usize
-    requires { ⌜ (k < 1024) × (4096 ≤ length (now marks)) ⌝ }
+    requires { ⌜ (k < maxWalked) × (4 * maxWalked ≤ length (now marks)) ⌝ }
     ensures { λ r. ⌜ r ≡ sizeMark (now (marks .entry)) k ⌝ }
 {
     numbers::get16(marks, k * 4 + 2) as usize

@@ -2,6 +2,7 @@
 ghost use mathlib.Core.Path.{_≡_};
 ghost use Prim.Native.Nat.{_+_, _-_, _<_, _≤_};
 ghost use lib.ListN.{getD};
+ghost use Rattle.meaning.specs.Limits.{maxHeight, maxWalked};
 ghost use Rattle.meaning.specs.TableFile.{tableOf};
 ghost use Rattle.table.specs.Answers.{Belongs};
 ghost use Rattle.chains.specs.Simulated.{stackOf, Standing, Pushed};
@@ -50,7 +51,7 @@ pub fn top(stack: Stack) -> StateNo
 
 // The stack with `base` entries kept and one state on top of them.
 pub fn pushed(stack: Stack, base: usize, state: StateNo) -> Stack
-    requires { ⌜ base < 64 ⌝ }
+    requires { ⌜ base < maxHeight ⌝ }
     ensures { λ r. ⌜ Pushed stack base state r ⌝ }
 {
     let mut states = stack.states;
@@ -63,7 +64,7 @@ pub fn pushed(stack: Stack, base: usize, state: StateNo) -> Stack
 
 // One reduction further on.
 pub fn stepped(at: Progress) -> Progress
-    requires { ⌜ (1 ≤ at .left) × (at .walked < 1024) ⌝ }
+    requires { ⌜ (1 ≤ at .left) × (at .walked < maxWalked) ⌝ }
     ensures { λ r. ⌜ Stepped at r ⌝ }
 {
     Progress {

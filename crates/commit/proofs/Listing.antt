@@ -4,8 +4,11 @@ use mathlib.Core.Logic.{_⊎_, inl, inr, ⊎-elim}
 use mathlib.Core.List.{List}
 use Prim.Native.Nat.{ℕ, zero, suc, _+_, _*_, _<_, _≤_}
 use native.Mathlib.Omega.{arith}
+use native.Mathlib.Decide.{decLt}
 use lib.ListN.{length}
 use Rattle.meaning.specs.Bytes.{byteAt}
+use Rattle.meaning.specs.Readings.{holds, heldBy}
+use Rattle.meaning.proofs.Booleans.{either-left, either-right}
 use Rattle.numbers.specs.Writing.{Agree, Apart}
 use Rattle.cells.specs.Pool.{cellSize, cellAt}
 use Rattle.cells.specs.Stacks.{Linked}
@@ -13,14 +16,14 @@ use Rattle.cells.specs.declared.Cell.{Cell}
 use Rattle.cells.proofs.Records.{Other, same?}
 use Rattle.cells.proofs.Stacks.{linked-top}
 use Rattle.state.specs.Layout.{readingsAt, slotSize, mapAt, workCells, stateCells}
-use Rattle.state.specs.Readings.{slotAt, topAt, heightAt, AllStand}
+use Rattle.state.specs.Readings.{slotAt, topAt, heightAt, readingAt, readingsFrom, AllStand}
 use Rattle.state.specs.declared.Slot.{Slot}
 use Rattle.state.proofs.Slots.{length-putSlot, agree-putSlot, slot-agree, slot-back}
 use Rattle.commit.specs.Moving.{movedTo, Move, moveStack}
 use Rattle.commit.specs.Committing.{moveOne, slot, commitOne, commitFrom}
 use Rattle.commit.proofs.Map.{cell-kept, slot-kept}
 use Rattle.commit.proofs.Steps.{stack-leaves}
-use Rattle.commit.proofs.Moving.{Good, move-gives, good-state}
+use Rattle.commit.proofs.Moving.{Good, Source, source-on, move-gives, good-state}
 use Rattle.commit.proofs.Results.{OneLeaves, one-leaves}
 
 -- Before k results, from the result i on; w₀ is the work area as the commit found it.
@@ -39,6 +42,7 @@ record One (cells : ℕ) (w₀ w s : List ℕ) (at i n : ℕ) (r : Move) : Type 
   keeps : (d k : ℕ) → movedTo w d ≡ suc k → movedTo (r .work) d ≡ suc k
   found : movedTo (r .work) (topAt w₀ at i) ≡ suc (topAt (r .state) readingsAt i)
   mark : slotAt (r .state) readingsAt i .mark ≡ slotAt w₀ at i .mark
+  fresh : (e : ℕ) → n ≤ e → e < r .next → Source (holds (readingAt w₀ at i .stack)) (r .work) e
   leaves : OneLeaves w s i n r
 
 one : (cells : ℕ) (w₀ w s : List ℕ) (at k i n : ℕ) → Going cells w₀ w s at (suc k) i n → One cells w₀ w s at i n (commitOne at w s i n)
@@ -68,6 +72,7 @@ one cells w₀ w s at k i n y =
       keeps = v .keeps;
       found = ap (movedTo (r .work)) (sym top) ∙ v .found (omega arith) ∙ ap suc (sym (ap (λ (q : Slot). q .top .0) back));
       mark = ap (λ (q : Slot). q .mark) back ∙ ap (λ (q : Slot). q .mark) same;
+      fresh = λ e a b. source-on _ _ (r .work) (r .work) e (λ c q. rw (height, top) at q) (λ c d q. q) (v .fresh e a b);
       leaves = one-leaves at w s i n (omega arith);
     }
 
@@ -98,6 +103,7 @@ pub record Done (cells : ℕ) (w₀ w s : List ℕ) (at k i n : ℕ) (r : Move) 
   pub keeps : (d e : ℕ) → movedTo w d ≡ suc e → movedTo (r .work) d ≡ suc e
   pub found : (j : ℕ) → i ≤ j → j < i + k → movedTo (r .work) (topAt w₀ at j) ≡ suc (topAt (r .state) readingsAt j)
   pub mark : (j : ℕ) → i ≤ j → j < i + k → slotAt (r .state) readingsAt j .mark ≡ slotAt w₀ at j .mark
+  pub fresh : (e : ℕ) → n ≤ e → e < r .next → Source (heldBy (readingsFrom w₀ at i k)) (r .work) e
   pub rest : (b : ℕ) → cellSize * r .next ≤ b → Apart (readingsAt + slotSize * i) (slotSize * k) b 1 → byteAt (r .state) b ≡ byteAt s b
 
 module _ (cells : ℕ) (w₀ w s : List ℕ) (at k i n : ℕ) (y : Going cells w₀ w s at (suc k) i n) (r : Move)
@@ -119,6 +125,14 @@ module _ (cells : ℕ) (w₀ w s : List ℕ) (at k i n : ℕ) (y : Going cells w
   mark-more j a b (inl q) = rw (← q) (ap (λ (x : Slot). x .mark) slot-stays ∙ o .mark)
   mark-more j a b (inr q) = d .mark j (⊎-elim (λ z. omega arith) (λ z. omega arith) q) (omega arith)
 
+  -- a cell that was taken is of this result or of a later one
+  fresh-more : (e : ℕ) → n ≤ e → e < r .next → Dec (e < commitOne at w s i n .next) → Source (heldBy (readingsFrom w₀ at i (suc k))) (r .work) e
+  unfolding heldBy readingsFrom
+  fresh-more e a b (yes h) =
+      source-on _ _ (commitOne at w s i n .work) (r .work) e (λ c q. either-left (holds (readingAt w₀ at i .stack) c) (heldBy (readingsFrom w₀ at (i + 1) k) c) q) (d .keeps) (o .fresh e a h)
+  fresh-more e a b (no h) =
+      source-on _ _ (r .work) (r .work) e (λ c q. either-right (holds (readingAt w₀ at i .stack) c) (heldBy (readingsFrom w₀ at (i + 1) k) c) q) (λ c f q. q) (d .fresh e (omega arith) b)
+
   rest-more : (b : ℕ) → cellSize * r .next ≤ b → Apart (readingsAt + slotSize * i) (slotSize * suc k) b 1 → byteAt (r .state) b ≡ byteAt s b
   rest-more b h a =
       let g = d .grows in
@@ -137,6 +151,7 @@ module _ (cells : ℕ) (w₀ w s : List ℕ) (at k i n : ℕ) (y : Going cells w
         keeps = λ e f q. d .keeps e f (o .keeps e f q);
         found = λ j a b. found-more j a b (same? i j);
         mark = λ j a b. mark-more j a b (same? i j);
+        fresh = λ e a b. fresh-more e a b (decLt e (commitOne at w s i n .next));
         rest = rest-more;
       }
 
@@ -152,6 +167,7 @@ all-done cells w₀ w s at zero i n y =
       keeps = λ d e q. q;
       found = λ j a b. absurd (omega arith);
       mark = λ j a b. absurd (omega arith);
+      fresh = λ e a b. absurd (omega arith);
       rest = λ b h a. refl;
     }
 all-done cells w₀ w s at (suc k) i n y = done-more cells w₀ w s at k i n y _ (all-done cells w₀ _ _ at k (i + 1) _ (going-more cells w₀ w s at k i n y))

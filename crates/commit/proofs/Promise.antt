@@ -8,12 +8,13 @@ use native.Mathlib.Omega.{arith}
 use lib.ListN.{length}
 use Rattle.meaning.specs.Identities.{renEntry, renReading}
 use Rattle.meaning.specs.Readings.{Entry, Reading, holds, heldBy}
+use Rattle.meaning.proofs.Held.{readings-held}
 use Rattle.numbers.specs.Writing.{putU16, Agree, length-putU16, agree-putU16, u16-putU16, u16-back}
 use Rattle.cells.specs.Pool.{cellAt}
 use Rattle.cells.specs.Stacks.{entriesOf, StatesBelow}
 use Rattle.cells.proofs.Stacks.{linked-top}
 use Rattle.state.specs.Layout.{readingsAt, countAt, usedAt, mapAt, workCells, stateLength}
-use Rattle.state.specs.Readings.{slotAt, topAt, heightAt, readingAt, readingsFrom, countOf, usedOf, readingsOf, resultsOf, StandsAt, AllStand}
+use Rattle.state.specs.Readings.{slotAt, topAt, heightAt, readingAt, readingsFrom, countOf, usedOf, readingsOf, resultsOf, Compact, StandsAt, AllStand}
 use Rattle.state.specs.Check.{validState, StatesKnown}
 use Rattle.state.specs.declared.Slot.{Slot}
 use Rattle.state.proofs.Slots.{slot-agree}
@@ -22,7 +23,7 @@ use Rattle.state.proofs.Valid.{valid-from}
 use Rattle.commit.specs.Moving.{movedTo, forgotten, Move, move}
 use Rattle.commit.specs.Committing.{commitFrom, commitOf, Results, Committed, Commits, ListReady}
 use Rattle.commit.proofs.Map.{length-forgotten, agree-forgotten, moved-nowhere, cell-kept, slot-kept}
-use Rattle.commit.proofs.Moving.{Good, good-state}
+use Rattle.commit.proofs.Moving.{Good, Source, good-state}
 use Rattle.commit.proofs.Sharing.{renamed, moved-height, moved-entries, moved-linked, Gone, held-gone, gone-apart}
 use Rattle.commit.proofs.Listing.{Going, Done, all-done}
 
@@ -56,6 +57,7 @@ module _ (w s : List ℕ) (at count cells : ℕ) (y : Results w s at count cells
               below = λ c k h e. absurd (nowhere c k h e);
               copy = λ c k h e. absurd (nowhere c k h e);
               link = λ c k h e b. absurd (nowhere c k h e);
+              lowest = λ c k h e b. absurd (nowhere c k h e);
               once = λ c d k h i e f. absurd (nowhere c k h e);
             };
         room = omega arith;
@@ -166,6 +168,24 @@ module _ (w s : List ℕ) (at count cells : ℕ) (y : Results w s at count cells
           held-gone cells (cellAt w) (r .work) s′ (r .next) good (heightAt w at i) (topAt w at i) (topAt s′ readingsAt i) a (stands i (omega arith) .stack) (found i (omega arith)) f
       here false f rest = rest (rw f at e)
 
+  -- Every cell in use is a copy of one that the results hold.
+  source : (c : ℕ) → c < usedOf s′ → Source (heldBy (resultsOf w at count)) (r .work) c
+  source c h = let u = used in d .fresh c (omega arith) (omega arith)
+
+  compact : Compact s′
+  compact =
+      record {
+        held = λ c h.
+            let o = source c h in
+            let i = o .is in
+            let u : renamed (r .work) (o .from) ≡ c = omega arith in
+            rw (same, ← u) (readings-held (renamed (r .work)) (resultsOf w at count) (o .from) (o .held));
+        lowest = λ c h e.
+            let o = source c h in
+            let inside = gone count 0 (o .from) (omega arith) (o .held) .inside in
+            good .lowest (o .from) c inside (o .is) (sym (moved-height cells (cellAt w) (r .work) s′ (r .next) good (o .from) c inside (o .is)) ∙ e);
+      }
+
   committed : Committed (resultsOf w at count) s s′
   committed =
       let n = length-readings w at 0 count in
@@ -177,6 +197,7 @@ module _ (w s : List ℕ) (at count cells : ℕ) (y : Results w s at count cells
             gone-apart cells (cellAt w) (r .work) s′ (r .next) good a b (gone count 0 a (omega arith) e) (gone count 0 b (omega arith) f) q;
         valid = valid;
         count = counted ∙ sym n;
+        compact = compact;
         cells = λ k h i. let u = used in let b = d .bound in before-counts k (omega arith) (omega arith) ∙ d .rest k (omega arith) (inr (omega arith));
         slots = λ k h i. let b = d .bound in before-counts k (omega arith) (omega arith) ∙ d .rest k (omega arith) (inl (omega arith));
       }

@@ -10,7 +10,7 @@ use Rattle.meaning.specs.Readings.{Reading, heldBy}
 use Rattle.numbers.specs.Writing.{putU16, Agree}
 use Rattle.cells.specs.Pool.{cellSize}
 use Rattle.state.specs.Layout.{readingsAt, slotSize, countAt, usedAt, mapAt, stateCells, stateLength, workCells, workLength}
-use Rattle.state.specs.Readings.{slotAt, putSlot, topAt, heightAt, countOf, usedOf, readingsOf, resultsOf, StandsAt, AllStand}
+use Rattle.state.specs.Readings.{slotAt, putSlot, topAt, heightAt, countOf, usedOf, readingsOf, resultsOf, Compact, StandsAt, AllStand}
 use Rattle.state.specs.Check.{validState, StatesKnown}
 use Rattle.state.specs.declared.Slot.{Slot}
 use Rattle.commit.specs.Moving.{forgotten, Move, move, moveStack}
@@ -51,14 +51,15 @@ pub record Results (w s : List ℕ) (at count cells : ℕ) : Type 0 where
   pub stands : AllStand cells w at 0 count
 
 -- THE PROMISE: the readings of the state are the results, in order, under other identities, and no two identities that occur become one. So marks, heights,
--- states, values and spans are the same, and so is the sharing. The state is valid for every table that knows the results' states. The cells that are not in use and
--- the slots beyond the count keep their bytes.
+-- states, values and spans are the same, and so is the sharing. The state is valid for every table that knows the results' states. Every cell in use is held by a
+-- reading. The cells that are not in use and the slots beyond the count keep their bytes.
 pub record Committed (results : List Reading) (s s′ : List ℕ) : Type 0 where
   pub rename : ℕ → ℕ
   pub same : readingsOf s′ ≡ map (renReading rename) results
   pub apart : (a b : ℕ) → heldBy results a ≡ true → heldBy results b ≡ true → rename a ≡ rename b → a ≡ b
   pub valid : (m : ℕ) → StatesKnown m results → validState m s′ ≡ true
   pub count : countOf s′ ≡ length results
+  pub compact : Compact s′
   pub cells : Agree s′ s (cellSize * usedOf s′) (readingsAt - cellSize * usedOf s′)
   pub slots : Agree s′ s (readingsAt + slotSize * length results) (countAt - (readingsAt + slotSize * length results))
 

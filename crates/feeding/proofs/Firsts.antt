@@ -16,6 +16,7 @@ use Rattle.meaning.specs.declared.View.{View}
 use Rattle.meaning.proofs.Trees.{ends-chain, no-chain}
 use Rattle.table.specs.Answers.{Belongs}
 use Rattle.state.specs.Readings.{countOf, usedOf, readingsFrom, readingsOf}
+use Rattle.state.proofs.Births.{first-finds}
 use Rattle.state.proofs.Lists.{all-stand-kept}
 use Rattle.actions.specs.Errors.{errorsFrom}
 use Rattle.actions.specs.Telling.{Area}
@@ -47,7 +48,8 @@ module _ (s : List ℕ) (view : View) (state w : List ℕ) (y : FirstReady s vie
               area = record { long = y .long; low = omega arith; high = omega arith; cells = omega arith; results = omega arith; errors = omega arith; stand = λ j p q. absurd (omega arith) };
               lefts = λ j p q. absurd (omega arith);
               few = omega arith;
-              paced = record { chains = omega arith; births = omega arith; results = omega arith; both = omega arith };
+              found = first-finds used (omega arith);
+              paced = record { chains = omega arith; unborn = λ q. u; results = omega arith; both = omega arith };
               walked = omega arith;
             };
         readings = λ j p q. y .readings j p (omega arith);
@@ -143,9 +145,9 @@ module _ (s : List ℕ) (view : View) (belongs : Belongs s view) (x : Term) (sta
           let st = passes .stands in
           let p = st .paced in
           let none = g .none in
-          let cells = p .births in let below = st .below in let results = p .results in let both = p .both in
+          let results = p .results in let both = p .both in
           let counts-are : so .counts ≡ record { cells = usedOf state; results = 0; errors = 0 } =
-          (let a : so .counts .cells ≡ usedOf state = omega arith in let b : so .counts .results ≡ 0 = omega arith in let c : so .counts .errors ≡ 0 = omega arith in λ i. record { cells = a i; results = b i; errors = c i }) in
+          (let a : so .counts .cells ≡ usedOf state = p .unborn none in let b : so .counts .results ≡ 0 = omega arith in let c : so .counts .errors ≡ 0 = omega arith in λ i. record { cells = a i; results = b i; errors = c i }) in
           let few = st .walked in let is = g .walked-is in
           record {
             is = by-pass _ (passes .is) ∙ g .is t recovers-is;

@@ -80,11 +80,11 @@ module _ (s : List ℕ) (view : View) (state w : List ℕ) (i : ℕ) (so : SoFar
 
     pub take-ready : TakeReady s view w resultsAt r so
     take-ready =
-        let a = y .stands .loaded .used in let b = y .budget in
+        let b = y .budget in
         record {
           belongs = y .belongs;
           area = y .stands .area;
           stands = stands-here;
-          roomy = record { cells = usedOf state; errors = 0; few-cells = omega arith; few-errors = omega arith; paced = y .stands .paced };
+          roomy = record { found = y .stands .found; cells = usedOf state; errors = 0; few-errors = omega arith; paced = y .stands .paced };
           walked = omega arith;
         }

@@ -22,6 +22,7 @@ use Rattle.cells.proofs.Stacks.{linked-top, linked-top-height}
 use Rattle.state.specs.Layout.{slotSize, readingsAt, resultsAt, leftAt}
 use Rattle.state.specs.Readings.{slotAt, putSlot, topAt, heightAt, readingOf, readingsFrom, resultsOf, usedOf, AllStand}
 use Rattle.state.specs.declared.Slot.{Slot}
+use Rattle.state.proofs.Births.{finds-on}
 use Rattle.state.proofs.Slots.{length-putSlot, agree-putSlot}
 use Rattle.state.proofs.Lists.{readings-kept, all-stand-kept, readings-added, stands-added}
 use Rattle.actions.specs.Acting.{readingIn}
@@ -103,7 +104,8 @@ module _ (x : Term) (s : List ℕ) (view : View) (state w : List ℕ) (i : ℕ) 
           area = g .area;
           lefts = all-stand-kept (usedOf state) w w₁ cells-on 41920 0 left slots-on (y .stands .lefts) (usedOf state) (omega arith);
           few = y .stands .few;
-          paced = g .paced (usedOf state) 0 (y .stands .paced);
+          found = finds-on (so .counts .cells) (so .chains) (so₁ .counts .cells) (so₁ .chains) (g .onward .leads) (y .stands .found);
+          paced = g .onward .paced (usedOf state) 0 (y .stands .paced);
           walked = few;
         }
 
@@ -205,7 +207,8 @@ module _ (x : Term) (s : List ℕ) (view : View) (state w : List ℕ) (i : ℕ) 
           area = put-area 41824 w₁ (so₁ .counts) (left-on .area) 41920 left slot (omega arith) (omega arith) (inr (omega arith));
           lefts = stands-added (usedOf state) w₁ 41920 left slot behind left-room lefts-before low-here high-here linked-slot;
           few = omega arith;
-          paced = left-on .paced (usedOf state) 0 (y .stands .paced);
+          found = finds-on (so .counts .cells) (so .chains) (so₁ .counts .cells) (so₁ .chains) (left-on .onward .leads) (y .stands .found);
+          paced = left-on .onward .paced (usedOf state) 0 (y .stands .paced);
           walked = few;
         }
 

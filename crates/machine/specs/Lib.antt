@@ -1,2 +1,3 @@
--- What start and the questions ask and leave on buffers of the right lengths.
+-- The machine's constants by their definitions; what start and the questions ask and leave on buffers of the right lengths.
 pub mod Lines
+pub mod Limits

@@ -1,4 +1,6 @@
 // The reading machine: its limits and its calls. Nothing else is for users.
+ghost use mathlib.Core.Path.{_≡_};
+ghost use Rattle.machine.specs.Limits.{limits};
 ghost use Rattle.promises.specs.Calls.{StartPromise, takesOn, canEndOn, canRecoverOn, QuestionPromise, StackPromise, FeedPromise};
 use meaning::Entry;
 use meaning::ErrorRecord;
@@ -13,6 +15,21 @@ mod asking;
 mod starting;
 
 pub struct Machine {}
+
+// The eight limits, and how long the lent buffers and the lent list of errors are.
+pub struct Limits {
+    pub states: u16,
+    pub classes: u16,
+    pub nonterminals: u16,
+    pub rules: u16,
+    pub readings: u16,
+    pub height: u16,
+    pub chain: usize,
+    pub walked: usize,
+    pub state_length: usize,
+    pub work_length: usize,
+    pub errors: usize,
+}
 
 impl Machine {
     // The eight limits.
@@ -38,6 +55,25 @@ impl Machine {
     pub const WORK_LENGTH: usize = state::WORK_LENGTH;
 
     pub const ERRORS: usize = meaning::MAX_ERRORS;
+
+    // The eleven constants, promised to be those of the definitions.
+    pub fn limits() -> Limits
+        ensures { λ r. ⌜ r ≡ limits ⌝ }
+    {
+        Limits {
+            states: Machine::STATES,
+            classes: Machine::CLASSES,
+            nonterminals: Machine::NONTERMINALS,
+            rules: Machine::RULES,
+            readings: Machine::READINGS,
+            height: Machine::HEIGHT,
+            chain: Machine::CHAIN,
+            walked: Machine::WALKED,
+            state_length: Machine::STATE_LENGTH,
+            work_length: Machine::WORK_LENGTH,
+            errors: Machine::ERRORS,
+        }
+    }
 
     // Makes a state buffer of any content the state of a new line.
     pub fn start(table: &[u8], state: &mut [u8], work: &mut [u8]) -> StartAnswer

@@ -7,7 +7,7 @@ use lib.ListN.{length, length-append}
 use lib.Dec.{ltb, T, ltb→lt}
 use native.Mathlib.Omega.{arith}
 use Rattle.meaning.specs.Basics.{if_then_else_, either, isNil, AllOf}
-use Rattle.meaning.specs.Limits.{maxReadings, maxWalked}
+use Rattle.meaning.specs.Limits.{maxReadings}
 use Rattle.meaning.specs.TableFile.{Table}
 use Rattle.meaning.specs.Readings.{Entry, Reading, states}
 use Rattle.meaning.specs.Walk.{Walk, Walked, refused, walked, plan, ends}
@@ -19,7 +19,6 @@ use Rattle.meaning.specs.Bounds.{Standing, Bounded}
 use Rattle.meaning.specs.declared.Term.{Term}
 use Rattle.meaning.specs.declared.Refusal.{Refusal}
 use Rattle.meaning.specs.declared.Refusal.the-variants.{TooManyReadings}
-use Rattle.meaning.proofs.Trees.{walk-is}
 use Rattle.meaning.proofs.Within.{Within, joined-within, nothing-within, wider, PlannedWithin, planned-within}
 use Rattle.meaning.proofs.Tools.{length-map, length-reverse, all-append, all-reverse}
 
@@ -316,8 +315,3 @@ module _ (rs : List Reading) (n : ℕ) (few : length rs ≤ 16) (stand : AllOf S
 pub bounds : (t : Table) (x : Term) (rs : List Reading) (next : ℕ) → length rs ≤ maxReadings → AllOf Standing rs → Bounded next (feed t x rs next)
 unfolding feed first
 bounds t x rs n few stand = settle-bounded rs n few stand t x (planAll t (x .class) (reverse rs) 0) (plan-taken t x (reverse rs) 0 (all-reverse Standing rs [] stand tt))
-
--- One planning walks at most 1,024 reductions.
-pub planning-bounded : (t : Table) (room class : ℕ) (st : List ℕ) (c : ℕ) (tree : Walk) (k c′ : ℕ) → plan t room class st c ≡ walked tree k c′ → k ≤ maxWalked
-unfolding plan
-planning-bounded t room class st c tree k c′ e = walk-is 32 t room class st 0 c tree k c′ e .few (omega arith)

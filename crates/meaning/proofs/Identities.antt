@@ -150,6 +150,10 @@ module _ (ρ : ℕ → ℕ) (n₀ : ℕ) (P : ℕ → Type 0) (apart : (a b : �
   held-ren [] b h p = refl
   held-ren (r ∷ rs) b h p = ap₂ {C = Bool} (λ u v. either u v) (holds-ren (r .stack) b (h .0) p) (held-ren rs b (h .1) p)
 
+  isHeld-ren : (held : List Reading) (e : Entry) → AllOf (OfEntries Own) held → Own e → isHeld (map (rr ρ) held) (re ρ e) ≡ isHeld held e
+  unfolding isHeld
+  isHeld-ren held e h o = held-ren held (e .born) h o
+
   -- Recovery.
   abbrev rs : Stage → Stage
   rs (stopped k) = stopped k
@@ -170,10 +174,10 @@ module _ (ρ : ℕ → ℕ) (n₀ : ℕ) (P : ℕ → Type 0) (apart : (a b : �
 
   recoverOne-ren : (held : List Reading) (m : ℕ) (rest whole : List Entry) (p n w c : ℕ) → n₀ ≤ n → AllOf (OfEntries Own) held → AllOf Own rest
       → recoverOne t (map (rr ρ) held) m (map (re ρ) rest) (map (re ρ) whole) p (ρ n) w c ≡ rs (recoverOne t held m rest whole p n w c)
-  unfolding recoverOne isHeld
+  unfolding recoverOne
   recoverOne-ren held m [] whole p n w c l h o = refl
   recoverOne-ren held m (e ∷ rest) whole p n w c l h o =
-      ap₂ {C = Stage} (λ (b : Bool) (st : List ℕ). if b then came (nothingApplied (ρ n)) w c else ifPlanned (plan t 16 1 st c) found′ on′) (held-ren held (e .born) h (o .0)) (states-ren ρ (e ∷ rest))
+      ap₂ {C = Stage} (λ (b : Bool) (st : List ℕ). if b then came (nothingApplied (ρ n)) w c else ifPlanned (plan t 16 1 st c) found′ on′) (isHeld-ren held e h (o .0)) (states-ren ρ (e ∷ rest))
       ∙ if-ren (isHeld held e) (came (nothingApplied n) w c) (ifPlanned (plan t 16 1 (states (e ∷ rest)) c) found on) (came (nothingApplied (ρ n)) w c) (ifPlanned (plan t 16 1 (states (e ∷ rest)) c) found′ on′)
       refl
       (planned-ren (plan t 16 1 (states (e ∷ rest)) c) found found′ on on′ found-ren (λ k c′. recoverOne-ren held m rest whole (p + 1) n (w + k) c′ l h (o .1)))

@@ -123,7 +123,7 @@ module _ (P : Entry → Type 0) (R : ℕ → Type 0) (n₀ : ℕ) (new : Passes 
     longer-of : (s : List Entry) (end n : ℕ) → n₀ ≤ n → AllOf P s → AllOf P (longerTop s end n)
     unfolding longerTop
     longer-of [] end n l h = tt
-    longer-of (e ∷ s) end n l h = (new .longer e end n l (h .0), h .1)
+    longer-of (e ∷ s) end n l h = (new .longer e _ n l (h .0), h .1)
 
     take-made : (x : Term) (rs : List Reading) (d : Applied) (w c : ℕ) → AllOf (OfEntries P) rs → Made P n₀ d → MadeOf P n₀ (takeTerm t x rs d w c)
     unfolding takeTerm stays

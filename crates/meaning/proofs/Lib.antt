@@ -1,6 +1,7 @@
 -- Theorems about the definitions: docs/DECISIONS.md lists them.
 pub mod Booleans
 pub mod Tools
+pub mod Planned
 pub mod Trees
 pub mod Renamed
 pub mod Plain

@@ -41,11 +41,11 @@ goto-slow n c (just to) f h = h to
 end-slow : (sh : Maybe ℕ) (n c : ℕ) → c ≤ n → n ≤ 1024 → Slow n c (endChain enoughRoom sh n c)
 unfolding endChain
 end-slow nothing n c l f = (omega arith, omega arith, f)
-end-slow (just to) n c l f = at (ltb c 1025) refl
+end-slow (just to) n c l f = at (ltb c enoughRoom) refl
   where
-    at : (b : Bool) → ltb c 1025 ≡ b → Slow n c (if b then walked (shift (just to)) n (c + 1) else refused TooManyReadings)
+    at : (b : Bool) → ltb c enoughRoom ≡ b → Slow n c (if b then walked (shift (just to)) n (c + 1) else refused TooManyReadings)
     at true e = (omega arith, omega arith, f)
-    at false e = let g : 1025 ≤ c = nltb→le c 1025 (is-false e) in absurd (omega arith)
+    at false e = let g : enoughRoom ≤ c = nltb→le c enoughRoom (is-false e) in absurd (omega arith)
 
 abbrev SlowFrom : (List ℕ → ℕ → ℕ → Walked) → Type 0
 SlowFrom deeper = (st : List ℕ) (n c : ℕ) → c ≤ n → n ≤ 1024 → Slow n c (deeper st n c)

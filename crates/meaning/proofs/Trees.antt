@@ -4,17 +4,18 @@ use mathlib.Core.Path.{_≡_, refl, sym, ap, _∙_, subst}
 use mathlib.Core.List.{List, [], _∷_}
 use mathlib.Core.Bool.{Bool, true, false}
 use lib.ListN.{length, getD, drop}
-use lib.Dec.{leb, ltb, eqb, T, ltb→lt, lt→ltb, nleb→lt}
+use lib.Dec.{leb, ltb, eqb, lt→ltb}
 use native.Mathlib.Omega.{arith}
 use Rattle.meaning.specs.Basics.{if_then_else_, both, either, Maybe, nothing, just}
 use Rattle.meaning.specs.TableFile.{Table, ActionRecord, gotoOf, ruleOf}
 use Rattle.meaning.specs.TableRight.{shifts}
 use Rattle.meaning.specs.Chains.{recordAt, landing}
-use Rattle.meaning.specs.Walk.{Walk, shift, reduce, Walked, refused, walked, andThen, endChain, orNoGoto, reduction, walkRules, walkState, walkFrom, ends, size, chains}
+use Rattle.meaning.specs.Walk.{Walk, shift, reduce, Walked, refused, walked, andThen, hasRoom, endChain, orNoGoto, walkFull, reduction, walkRules, walkState, walkFrom, ends, size, chains}
 use Rattle.meaning.specs.declared.Rule.{Rule}
 use Rattle.meaning.specs.declared.Refusal.{Refusal}
 use Rattle.meaning.specs.declared.Refusal.the-variants.{ReachesStart, TooHigh, ChainTooLong, WalkTooLong, TooManyReadings}
-use Rattle.meaning.proofs.Booleans.{IsTrue, is-true, is-false, either-false}
+use Rattle.meaning.proofs.Booleans.{IsTrue, is-true, either-false}
+use Rattle.meaning.proofs.Planned.{WalkBounded, walk-bounded}
 
 abbrev pub treeStep : Maybe ℕ → ℕ → (ℕ → Walk) → Walk → Walk
 treeStep nothing k deeper beside = beside
@@ -91,7 +92,13 @@ then-yes : (x : Walked) (f : Walk → ℕ → ℕ → Walked) {w : Walk} {n c : 
 then-yes (refused k) f e = refused-not e
 then-yes (walked w n c) f e = (record { w = w; n = n; c = c; is = refl }, e)
 
--- what a walk that was not refused is
+-- what a walk that was not refused is: this tree, with its reductions and chains counted
+record Counted (tree : Walk) (n c : ℕ) (w : Walk) (n′ c′ : ℕ) : Type 0 where
+  tree-is : w ≡ tree
+  count-is : n′ ≡ n + size tree
+  chains-is : c′ ≡ c + chains tree
+
+-- and within the bounds of a planning
 pub record Is (tree : Walk) (room n c : ℕ) (w : Walk) (n′ c′ : ℕ) : Type 0 where
   pub tree-is : w ≡ tree
   pub count-is : n′ ≡ n + size tree
@@ -99,18 +106,17 @@ pub record Is (tree : Walk) (room n c : ℕ) (w : Walk) (n′ c′ : ℕ) : Type
   pub fits : c ≤ room → c′ ≤ room
   pub few : n ≤ 1024 → n′ ≤ 1024
 
-end-is : (room : ℕ) (sh : Maybe ℕ) (n c : ℕ) {w : Walk} {n′ c′ : ℕ} → endChain room sh n c ≡ walked w n′ c′ → Is (shift sh) room n c w n′ c′
+end-is : (room : ℕ) (sh : Maybe ℕ) (n c : ℕ) {w : Walk} {n′ c′ : ℕ} → endChain room sh n c ≡ walked w n′ c′ → Counted (shift sh) n c w n′ c′
 unfolding endChain size chains
 end-is room nothing n c e =
     let a : n ≡ _ = ap countOf e in
     let b : c ≡ _ = ap chainsOf e in
-    record { tree-is = sym (ap walkOf e); count-is = omega arith; chains-is = omega arith; fits = λ h. omega arith; few = λ h. omega arith }
+    record { tree-is = sym (ap walkOf e); count-is = omega arith; chains-is = omega arith }
 end-is room (just t) n c e =
-    let d = if-yes (ltb c room) TooManyReadings (walked (shift (just t)) n (c + 1)) e .1 in
+    let d = if-yes (hasRoom room c) TooManyReadings (walked (shift (just t)) n (c + 1)) e .1 in
     let a : n ≡ _ = ap countOf d in
     let b : c + 1 ≡ _ = ap chainsOf d in
-    let l : c < room = ltb→lt c room (subst T (sym (if-yes (ltb c room) TooManyReadings (walked (shift (just t)) n (c + 1)) e .0)) tt) in
-    record { tree-is = sym (ap walkOf d); count-is = omega arith; chains-is = omega arith; fits = λ h. omega arith; few = λ h. omega arith }
+    record { tree-is = sym (ap walkOf d); count-is = omega arith; chains-is = omega arith }
 
 -- each rule of the list leads somewhere, to a stack of which P holds
 abbrev pub GrownBy : Table → (List ℕ → Type 0) → List ℕ → List ℕ → Type 0
@@ -122,13 +128,13 @@ abbrev pub Grown : (left : ℕ) → Table → (cls : ℕ) → List ℕ → Type 
 Grown zero t cls st = GrownBy t (λ s. ⊥) st (recordAt t cls st .rules)
 Grown (suc left) t cls st = GrownBy t (λ s. Grown left t cls s) st (recordAt t cls st .rules)
 
-abbrev Fits : (List ℕ → Walk) → (List ℕ → Type 0) → ℕ → (List ℕ → ℕ → ℕ → Walked) → Type 0
-Fits deeper P room go = (st : List ℕ) (n c : ℕ) (w : Walk) (n′ c′ : ℕ) → go st n c ≡ walked w n′ c′ → Is (deeper st) room n c w n′ c′ × P st
+abbrev Fits : (List ℕ → Walk) → (List ℕ → Type 0) → (List ℕ → ℕ → ℕ → Walked) → Type 0
+Fits deeper P go = (st : List ℕ) (n c : ℕ) (w : Walk) (n′ c′ : ℕ) → go st n c ≡ walked w n′ c′ → Counted (deeper st) n c w n′ c′ × P st
 
 -- what is known of a first rule's reduction in a walk that was not refused
 pub record Reduces (t : Table) (room left : ℕ) (go : List ℕ → ℕ → ℕ → Walked) (sh : Maybe ℕ) (st : List ℕ) (k : ℕ) (ks : List ℕ) (n c : ℕ) (w : Walk) (n′ c′ : ℕ) : Type 0 where
   pub to : ℕ
-  pub steps-fit : leb 1024 n ≡ false
+  pub steps-fit : walkFull n ≡ false
   pub chain-fits : eqb left 0 ≡ false
   pub pops : leb (length st) (ruleOf t k .len) ≡ false
   pub leads : gotoOf t (getD (drop (ruleOf t k .len) st) 0 0) (ruleOf t k .left) ≡ just to
@@ -161,8 +167,8 @@ reduces t room left go sh st k ks n c w n′ c′ e =
     low : Walked
     low = orNoGoto (gotoOf t (getD rest 0 0) (q .left)) high
 
-    e1 : (leb 1024 n ≡ false) × ((if eqb left 0 then refused ChainTooLong else if leb (length st) (q .len) then refused ReachesStart else low) ≡ walked w n′ c′)
-    e1 = if-not (leb 1024 n) WalkTooLong (if eqb left 0 then refused ChainTooLong else if leb (length st) (q .len) then refused ReachesStart else low) e
+    e1 : (walkFull n ≡ false) × ((if eqb left 0 then refused ChainTooLong else if leb (length st) (q .len) then refused ReachesStart else low) ≡ walked w n′ c′)
+    e1 = if-not (walkFull n) WalkTooLong (if eqb left 0 then refused ChainTooLong else if leb (length st) (q .len) then refused ReachesStart else low) e
 
     e2 : (eqb left 0 ≡ false) × ((if leb (length st) (q .len) then refused ReachesStart else low) ≡ walked w n′ c′)
     e2 = if-not (eqb left 0) ChainTooLong (if leb (length st) (q .len) then refused ReachesStart else low) (e1 .1)
@@ -188,8 +194,8 @@ reduces t room left go sh st k ks n c w n′ c′ e =
     e7 : (y : Walks (walkRules t room left go sh st ks (z .n) (z .c))) × (walked (reduce k to (z .w) (y .w)) (y .n) (y .c) ≡ walked w n′ c′)
     e7 = then-yes (walkRules t room left go sh st ks (z .n) (z .c)) (λ v′ m′ d′. walked (reduce k to (z .w) v′) m′ d′) (e6 .1)
 
-rules-are : (t : Table) (room left : ℕ) (deeper : List ℕ → Walk) (P : List ℕ → Type 0) (go : List ℕ → ℕ → ℕ → Walked) → Fits deeper P room go
-    → (sh : Maybe ℕ) (st ks : List ℕ) (n c : ℕ) (w : Walk) (n′ c′ : ℕ) → walkRules t room left go sh st ks n c ≡ walked w n′ c′ → Is (treeBy t deeper sh st ks) room n c w n′ c′ × GrownBy t P st ks
+rules-are : (t : Table) (room left : ℕ) (deeper : List ℕ → Walk) (P : List ℕ → Type 0) (go : List ℕ → ℕ → ℕ → Walked) → Fits deeper P go
+    → (sh : Maybe ℕ) (st ks : List ℕ) (n c : ℕ) (w : Walk) (n′ c′ : ℕ) → walkRules t room left go sh st ks n c ≡ walked w n′ c′ → Counted (treeBy t deeper sh st ks) n c w n′ c′ × GrownBy t P st ks
 unfolding walkRules landing size chains
 rules-are t room left deeper P go fits sh st [] n c w n′ c′ e = (end-is room sh n c e, tt)
 rules-are t room left deeper P go fits sh st (k ∷ ks) n c w n′ c′ e =
@@ -207,8 +213,6 @@ rules-are t room left deeper P go fits sh st (k ∷ ks) n c w n′ c′ e =
         tree-is = sym (ap walkOf (v .all)) ∙ (λ i. reduce k (v .to) (a .0 .tree-is i) (b .0 .tree-is i)) ∙ sym tree-step;
         count-is = omega arith;
         chains-is = omega arith;
-        fits = λ h. let h5 = a .0 .fits h in let h6 = b .0 .fits h5 in omega arith;
-        few = λ h. let h7 : n < 1024 = nleb→lt 1024 n (is-false (v .steps-fit)) in let h8 = a .0 .few (omega arith) in let h9 = b .0 .few h8 in omega arith;
       },
       (v .to, land, a .1, b .1),
     )
@@ -237,15 +241,15 @@ rules-are t room left deeper P go fits sh st (k ∷ ks) n c w n′ c′ e =
     tree-step : treeStep (landing t q st) k (λ to. deeper (to ∷ rest)) others ≡ reduce k (v .to) (deeper (v .to ∷ rest)) others
     tree-step = ap (λ (m : Maybe ℕ). treeStep m k (λ to. deeper (to ∷ rest)) others) land
 
-state-is : (t : Table) (room left : ℕ) (deeper : List ℕ → Walk) (P : List ℕ → Type 0) (go : List ℕ → ℕ → ℕ → Walked) → Fits deeper P room go
-    → (a : ActionRecord) (st : List ℕ) (n c : ℕ) (w : Walk) (n′ c′ : ℕ) → walkState t room left go a st n c ≡ walked w n′ c′ → Is (treeBy t deeper (a .shift) st (a .rules)) room n c w n′ c′ × GrownBy t P st (a .rules)
+state-is : (t : Table) (room left : ℕ) (deeper : List ℕ → Walk) (P : List ℕ → Type 0) (go : List ℕ → ℕ → ℕ → Walked) → Fits deeper P go
+    → (a : ActionRecord) (st : List ℕ) (n c : ℕ) (w : Walk) (n′ c′ : ℕ) → walkState t room left go a st n c ≡ walked w n′ c′ → Counted (treeBy t deeper (a .shift) st (a .rules)) n c w n′ c′ × GrownBy t P st (a .rules)
 unfolding walkState
 state-is t room left deeper P go fits a st n c w n′ c′ e =
     rules-are t room left deeper P go fits (a .shift) st (a .rules) n c w n′ c′
     (if-not (both (shifts (a .shift)) (ltb 64 (length st + 1))) TooHigh (walkRules t room left go (a .shift) st (a .rules) n c) e .1)
 
 walk-both : (left : ℕ) (t : Table) (room cls : ℕ) (st : List ℕ) (n c : ℕ) (w : Walk) (n′ c′ : ℕ) → walkFrom left t room cls st n c ≡ walked w n′ c′
-    → Is (treeFrom left t cls st) room n c w n′ c′ × Grown left t cls st
+    → Counted (treeFrom left t cls st) n c w n′ c′ × Grown left t cls st
 unfolding walkState walkFrom
 walk-both zero t room cls st n c w n′ c′ e =
     state-is t room 0 (λ s. shift nothing) (λ s. ⊥) (λ st′ m d. refused ChainTooLong) (λ s m d v m′ d′ f. refused-not f) (recordAt t cls st) st n c w n′ c′ e
@@ -255,7 +259,10 @@ walk-both (suc left) t room cls st n c w n′ c′ e =
 
 pub walk-is : (left : ℕ) (t : Table) (room cls : ℕ) (st : List ℕ) (n c : ℕ) (w : Walk) (n′ c′ : ℕ) → walkFrom left t room cls st n c ≡ walked w n′ c′
     → Is (treeFrom left t cls st) room n c w n′ c′
-walk-is left t room cls st n c w n′ c′ e = walk-both left t room cls st n c w n′ c′ e .0
+walk-is left t room cls st n c w n′ c′ e =
+    let i = walk-both left t room cls st n c w n′ c′ e .0 in
+    let b = subst (WalkBounded room n c) e (walk-bounded room left t cls st n c) in
+    record { tree-is = i .tree-is; count-is = i .count-is; chains-is = i .chains-is; fits = b .1; few = b .0 }
 
 pub walk-grown : (left : ℕ) (t : Table) (room cls : ℕ) (st : List ℕ) (n c : ℕ) (w : Walk) (n′ c′ : ℕ) → walkFrom left t room cls st n c ≡ walked w n′ c′ → Grown left t cls st
 walk-grown left t room cls st n c w n′ c′ e = walk-both left t room cls st n c w n′ c′ e .1
@@ -271,11 +278,11 @@ end-again room nothing n c w n′ c′ e d h =
     let g : d ≡ d + chains w = omega arith in
     λ i. walked (ap walkOf e i) (ap countOf e i) (g i)
 end-again room (just t) n c w n′ c′ e d h =
-    let e′ = if-yes (ltb c room) TooManyReadings (walked (shift (just t)) n (c + 1)) e .1 in
+    let e′ = if-yes (hasRoom room c) TooManyReadings (walked (shift (just t)) n (c + 1)) e .1 in
     let f : 1 ≡ chains w = ap chains (ap walkOf e′) in
     let g : d + 1 ≡ d + chains w = omega arith in
     let l : d < room = omega arith in
-    ap (λ (b : Bool). if b then walked (shift (just t)) n (d + 1) else refused TooManyReadings) (is-true (ltb d room) (lt→ltb d room l))
+    ap (λ (b : Bool). if b then walked (shift (just t)) n (d + 1) else refused TooManyReadings) (is-true (hasRoom room d) (lt→ltb d room l))
     ∙ (λ i. walked (ap walkOf e′ i) (ap countOf e′ i) (g i))
 
 rules-again : (t : Table) (room left : ℕ) (go : List ℕ → ℕ → ℕ → Walked) → Again room go

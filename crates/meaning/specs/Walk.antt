@@ -27,20 +27,28 @@ abbrev pub andThen : Walked → (Walk → ℕ → ℕ → Walked) → Walked
 andThen (refused k) f = refused k
 andThen (walked w n c) f = f w n c
 
+-- whether there is room for one more chain after c chains
+abbrev pub hasRoom : (room c : ℕ) → Bool
+hasRoom room c = ltb c room
+
 -- The shift ends a chain. If there is no room for one more chain, that is 11.
 unfoldable pub endChain : (room : ℕ) → Maybe ℕ → (n c : ℕ) → Walked
 endChain room nothing n c = walked (shift nothing) n c
-endChain room (just to) n c = if ltb c room then walked (shift (just to)) n (c + 1) else refused TooManyReadings
+endChain room (just to) n c = if hasRoom room c then walked (shift (just to)) n (c + 1) else refused TooManyReadings
 
 -- no goto is 7
 abbrev pub orNoGoto : Maybe ℕ → (ℕ → Walked) → Walked
 orNoGoto nothing f = refused NoGoto
 orNoGoto (just to) f = f to
 
+-- whether a planning may walk no more after n reductions
+abbrev pub walkFull : (n : ℕ) → Bool
+walkFull n = leb maxWalked n
+
 -- One reduction, the (n + 1)th of this planning, with `left` steps left in its chain. The tests stand in their order; `go` goes on from the goto and what is left of the stack.
 unfoldable pub reduction : Table → Rule → List ℕ → (left n : ℕ) → (go : ℕ → List ℕ → Walked) → Walked
 reduction t q st left n go =
-    if leb maxWalked n then refused WalkTooLong
+    if walkFull n then refused WalkTooLong
     else if eqb left 0 then refused ChainTooLong
     else if leb (length st) (q .len) then refused ReachesStart
     else orNoGoto (gotoOf t (getD (drop (q .len) st) 0 0) (q .left)) (λ to.

@@ -11,6 +11,7 @@ use Rattle.meaning.specs.Identities.{renEntry, renReading}
 use Rattle.meaning.specs.Readings.{Entry, Reading, plain, holds, heldBy}
 use Rattle.meaning.proofs.Booleans.{no-false, either-left, either-right}
 use Rattle.meaning.proofs.Held.{own-readings}
+pub use Rattle.meaning.proofs.Held.{readings-held}
 use Rattle.promises.specs.Calls.{Renamed, SameState}
 
 -- Entries held by readings, as one stack.
@@ -32,27 +33,9 @@ unfolding heldBy holds
 held-entries [] b = refl
 held-entries (r ∷ rs) b = ap (either (holds (r .stack) b)) (held-entries rs b) ∙ sym (holds-append (r .stack) (entries rs) b)
 
--- What a renaming finds held, and what was held before it.
+-- What was held before a renaming.
 
 module _ (ρ : ℕ → ℕ) where
-  stack-held : (s : List Entry) (a : ℕ) → holds s a ≡ true → holds (map (renEntry ρ) s) (ρ a) ≡ true
-  unfolding holds
-  stack-held [] a h = h
-  stack-held (e ∷ s) a h = at (eqb (e .born) a) refl h (stack-held s a)
-    where
-      at : (b : Bool) → eqb (e .born) a ≡ b → either b (holds s a) ≡ true → (holds s a ≡ true → holds (map (renEntry ρ) s) (ρ a) ≡ true) → either (eqb (ρ (e .born)) (ρ a)) (holds (map (renEntry ρ) s) (ρ a)) ≡ true
-      at true q g go = either-left (eqb (ρ (e .born)) (ρ a)) (holds (map (renEntry ρ) s) (ρ a)) (eq-eqb (ρ (e .born)) (ρ a) (ap ρ (eqb-true (e .born) a q)))
-      at false q g go = either-right (eqb (ρ (e .born)) (ρ a)) (holds (map (renEntry ρ) s) (ρ a)) (go g)
-
-  pub readings-held : (rs : List Reading) (a : ℕ) → heldBy rs a ≡ true → heldBy (map (renReading ρ) rs) (ρ a) ≡ true
-  unfolding heldBy
-  readings-held [] a h = h
-  readings-held (r ∷ rs) a h = at (holds (r .stack) a) refl h (readings-held rs a)
-    where
-      at : (b : Bool) → holds (r .stack) a ≡ b → either b (heldBy rs a) ≡ true → (heldBy rs a ≡ true → heldBy (map (renReading ρ) rs) (ρ a) ≡ true) → either (holds (map (renEntry ρ) (r .stack)) (ρ a)) (heldBy (map (renReading ρ) rs) (ρ a)) ≡ true
-      at true q g go = either-left (holds (map (renEntry ρ) (r .stack)) (ρ a)) (heldBy (map (renReading ρ) rs) (ρ a)) (stack-held (r .stack) a q)
-      at false q g go = either-right (holds (map (renEntry ρ) (r .stack)) (ρ a)) (heldBy (map (renReading ρ) rs) (ρ a)) (go g)
-
   -- an identity that was renamed to b
   record Origin (P : ℕ → Bool) (b : ℕ) : Type 0 where
     was : ℕ

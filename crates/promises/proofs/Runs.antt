@@ -76,7 +76,7 @@ below-used table state = at (stateFor table state) refl
 
 -- What is seen of states that are the same but for identities.
 
-seen-stack : (ρ : ℕ → ℕ) (s : List Entry) → map seen (map (renEntry ρ) s) ≡ map seen s
+pub seen-stack : (ρ : ℕ → ℕ) (s : List Entry) → map seen (map (renEntry ρ) s) ≡ map seen s
 seen-stack ρ [] = refl
 seen-stack ρ (e ∷ s) = ap (λ (l : List SeenEntry). seen e ∷ l) (seen-stack ρ s)
 

@@ -34,7 +34,7 @@ of-stack P (e ∷ s) a o h = at (eqb (e .born) a) refl h (of-stack P s a (o .1))
     at true q g go = subst P (eqb-true (e .born) a q) (o .0)
     at false q g go = go g
 
-of-held : (P : ℕ → Type 0) (rs : List Reading) (a : ℕ) → OfAll P rs → heldBy rs a ≡ true → P a
+pub of-held : (P : ℕ → Type 0) (rs : List Reading) (a : ℕ) → OfAll P rs → heldBy rs a ≡ true → P a
 unfolding heldBy
 of-held P [] a o h = no-false h
 of-held P (r ∷ rs) a o h = at (holds (r .stack) a) refl h (of-held P rs a (o .1))

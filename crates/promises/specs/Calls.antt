@@ -21,7 +21,7 @@ use Rattle.numbers.specs.Writing.{Agree}
 use Rattle.cells.specs.Pool.{cellSize}
 use Rattle.state.specs.Areas.{Started}
 use Rattle.state.specs.Layout.{readingsAt, slotSize, countAt}
-use Rattle.state.specs.Readings.{countOf, usedOf}
+use Rattle.state.specs.Readings.{countOf, usedOf, Compact}
 use Rattle.promises.specs.Buffers.{lengthsRight, feedLengths, listsRight, stateFor, workAfter}
 
 -- Start. The new entry has the identity 0.
@@ -80,11 +80,12 @@ pub record Spared (state state′ : List ℕ) : Type 0 where
   pub cells : Agree state′ state (cellSize * usedOf state′) (readingsAt - cellSize * usedOf state′)
   pub slots : Agree state′ state (readingsAt + slotSize * countOf state′) (countAt - (readingsAt + slotSize * countOf state′))
 
--- What a feed answers and leaves where its definition comes to this call. Answers 1 to 11 leave the state byte for byte as it was.
+-- What a feed answers and leaves where its definition comes to this call. Answers 1 to 11 leave the state byte for byte as it was; after 0 and 12 every cell in use is held by a reading that is left.
 pub record FeedLeaves (table state : List ℕ) (call : FeedCall) (r : FeedAnswer) (state′ : List ℕ) (errors′ : List ErrorRecord) : Type 0 where
   pub answers : feedNumbers r ≡ call .says
   pub readings : SameState (call .state) (stateFor table state′)
   pub refused : (1 ≤ feedNumbers r .answer) × (feedNumbers r .answer ≤ 11) → state′ ≡ state
+  pub compact : ((1 ≤ feedNumbers r .answer) × (feedNumbers r .answer ≤ 11) → ⊥) → Compact state′
   pub spared : Spared state state′
   pub errors-are : errors′ ≡ call .errors
 

@@ -25,6 +25,7 @@ use Rattle.numbers.specs.Zeros.{zeros}
 use Rattle.state.specs.Check.{validState}
 use Rattle.state.specs.Readings.{usedOf, readingsOf}
 use Rattle.promises.specs.Buffers.{stateFor}
+use Rattle.promises.specs.Cells.{EqualButCells}
 use Rattle.promises.specs.Calls.{StartPromise, takesOn, canEndOn, canRecoverOn, QuestionPromise, StackPromise, SameState, FeedPromise}
 
 -- Answers 1 to 11.
@@ -38,12 +39,13 @@ abbrev pub plainState : State → State
 plainState nothing = nothing
 plainState (just rs) = just (map plain rs)
 
--- Two outcomes of one feed are equal but for which cell holds which entry; where the feed is refused, to the last byte.
+-- Two outcomes of one feed are equal but for which cell holds which entry, in nothing else; where the feed is refused, to the last byte.
 pub record SameOutcome (table : List ℕ) (r q : FeedAnswer) (state₁ state₂ work₁ work₂ : List ℕ) (errors₁ errors₂ : List ErrorRecord) : Type 0 where
   pub answer : r ≡ q
   pub states : SameState (stateFor table state₁) (stateFor table state₂)
   pub readings : plainState (stateFor table state₁) ≡ plainState (stateFor table state₂)
   pub refused : Refusing (feedNumbers r .answer) → state₁ ≡ state₂
+  pub taken : (Refusing (feedNumbers r .answer) → ⊥) → EqualButCells state₁ state₂
   pub work : work₁ ≡ work₂
   pub errors : errors₁ ≡ errors₂
 

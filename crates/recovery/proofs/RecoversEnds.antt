@@ -75,11 +75,11 @@ module _ (s : List ℕ) (view : View) (w : List ℕ) (so : SoFar) (y : SecondRea
         stand = y .area .stand;
         roomy =
             record {
+              found = y .found;
               cells = so .counts .cells;
               errors = so .counts .errors;
-              few-cells = y .few-cells;
               few-errors = errors;
-              paced = record { chains = omega arith; births = omega arith; results = omega arith; both = omega arith };
+              paced = record { chains = omega arith; unborn = λ q. refl; results = omega arith; both = omega arith };
             };
         walked = omega arith;
       }

@@ -1,9 +1,7 @@
--- The areas of both buffers follow one another without a gap, within the limits; and a cell is found for every birth. Assumes nothing.
+-- The areas of both buffers follow one another without a gap, within the limits. Assumes nothing.
 use mathlib.Core.Path.{_≡_, refl}
-use Prim.Native.Nat.{ℕ, _+_, _*_, _<_, _≤_}
+use Prim.Native.Nat.{_+_, _*_, _≤_}
 use native.Mathlib.Omega.{arith}
-use lib.ListN.{length}
-use mathlib.Core.List.{List}
 use Rattle.meaning.specs.Bounds.{maxBirths}
 use Rattle.meaning.specs.Limits.{maxReadings, maxHeight, maxWalked, maxErrors, maxBytes}
 use Rattle.cells.specs.Pool.{cellSize}
@@ -32,7 +30,3 @@ pub record WorkAreas : Type 0 where
 
 pub work-areas : WorkAreas
 work-areas = record { cells = refl; marks = refl; results = refl; left = refl; errors = refl; map = refl; end = refl; small = omega arith }
-
--- A cell is always found: where a state uses `used` cells, every birth of a feed has one of its own.
-pub cell-found : (w : List ℕ) (used n : ℕ) → length w ≡ workLength → used ≤ stateCells → n < used + maxBirths → cellSize * n + cellSize ≤ length w
-cell-found w used n l u b = omega arith

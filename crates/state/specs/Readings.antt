@@ -1,10 +1,12 @@
 -- The readings that bytes mean: a slot names a top cell and a mark, and the stack is what the parent links give. Identities are cell numbers.
+use mathlib.Core.Path.{_≡_}
+use mathlib.Core.Bool.{true}
 use mathlib.Core.List.{List, [], _∷_}
 use Prim.Native.Nat.{ℕ, zero, suc, _+_, _*_, _<_, _≤_}
 use lib.ListN.{length}
 use Rattle.meaning.specs.Bytes.{u16At, u32At}
 use Rattle.meaning.specs.Limits.{maxReadings, maxHeight}
-use Rattle.meaning.specs.Readings.{Reading}
+use Rattle.meaning.specs.Readings.{Reading, heldBy}
 use Rattle.numbers.specs.Writing.{putU16, putU32}
 use Rattle.cells.specs.Pool.{cellSize, cellAt}
 use Rattle.cells.specs.Stacks.{Pool, entriesOf, Linked}
@@ -49,6 +51,11 @@ usedOf s = u16At s usedAt
 
 abbrev pub readingsOf : List ℕ → List Reading
 readingsOf s = resultsOf s readingsAt (countOf s)
+
+-- Every cell in use is held by a reading, and the parent of a lowest one is 0: nothing of the cells in use is open but which of them holds which entry.
+pub record Compact (s : List ℕ) : Type 0 where
+  pub held : (c : ℕ) → c < usedOf s → heldBy (readingsOf s) c ≡ true
+  pub lowest : (c : ℕ) → c < usedOf s → cellAt s c .height ≡ 1 → cellAt s c .parent .0 ≡ 0
 
 -- A reading of a list stands: its stack is linked, from a height from 1 to 64 down to 1, through cells below `cells`.
 pub record StandsAt (cells : ℕ) (s : List ℕ) (at i : ℕ) : Type 0 where

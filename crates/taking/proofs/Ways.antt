@@ -20,6 +20,8 @@ use Rattle.chains.proofs.Following.{plans, refuses}
 use Rattle.cells.specs.Pool.{cellSize}
 use Rattle.state.specs.Readings.{slotAt, ListIn}
 use Rattle.state.specs.declared.Slot.{Slot}
+use Rattle.state.specs.Births.{Leads}
+use Rattle.state.proofs.Births.{leads-same, leads-takes}
 use Rattle.state.proofs.Holding.{top-room}
 use Rattle.actions.specs.Acting.{stackIn, readingIn}
 use Rattle.actions.specs.Telling.{Told}
@@ -30,7 +32,7 @@ use Rattle.applying.specs.Following.{marksOf, ReadingReady, ReadingDone}
 use Rattle.applying.specs.Planting.{PlanReady, PlanDone}
 use Rattle.applying.proofs.Alternating.{ready-planned, planted-reading, planted-area, since-planted, since-told, since-then}
 use Rattle.applying.proofs.Rooms.{room-planned}
-use Rattle.taking.specs.Taking.{Paced, TakeReady, planned, Refuses, Takes, Leaves}
+use Rattle.taking.specs.Taking.{Paced, Onward, TakeReady, planned, Refuses, Takes, Leaves}
 use Rattle.taking.specs.declared.SoFar.{SoFar}
 
 abbrev soFar : Counts → (walked chains : ℕ) → SoFar
@@ -55,9 +57,6 @@ module _ (s : List ℕ) (view : View) (w : List ℕ) (list : ℕ) (x : Term) (r 
       pub total-fits : so .walked + k < 18446744073709551616
       total-fits = let a = walk .few in let b = y .walked in omega arith
 
-      births-fit : so .counts .cells + 33 * ended ≤ 2096 + 33 * so .chains
-      births-fit = let a = y .roomy .paced .births in let b = y .roomy .few-cells in let m = at-most in omega arith
-
       results-fit : so .counts .results + ended ≤ 16 + so .chains
       results-fit = let a = y .roomy .paced .results in let m = at-most in omega arith
 
@@ -65,7 +64,16 @@ module _ (s : List ℕ) (view : View) (w : List ℕ) (list : ℕ) (x : Term) (r 
       errors-fit = let a = y .roomy .paced .both in let b = y .roomy .few-errors in let m = at-most in omega arith
 
       pub ready-to-apply : ReadingReady s view w₁ list x r (so .counts)
-      ready-to-apply = ready-planned s view list x r (so .counts) w w₁ (so .chains) answer k ended (y .belongs) (y .area) (y .stands) d e births-fit results-fit errors-fit
+      ready-to-apply = ready-planned s view list x r (so .counts) w w₁ (so .chains) answer k ended (y .belongs) (y .area) (y .stands) d e (y .roomy .found) results-fit errors-fit
+
+      onward-left : ended ≡ so .chains → Onward so (soFar (so .counts) (so .walked + k) ended)
+      onward-left z =
+          record {
+            leads = subst (Leads (so .counts .cells) (so .chains) (so .counts .cells)) (sym z) (leads-same (so .counts .cells) (so .chains));
+            paced = λ cells errors p.
+                let a = p .chains in let b = p .unborn in let c = p .results in let f = p .both in
+                record { chains = omega arith; unborn = λ q. b (omega arith); results = omega arith; both = omega arith };
+          }
 
       pub left-way : ended ≡ so .chains → Leaves (tableOf s) x list w r so w₁ (soFar (so .counts) (so .walked + k) ended)
       left-way z =
@@ -77,9 +85,7 @@ module _ (s : List ℕ) (view : View) (w : List ℕ) (list : ℕ) (x : Term) (r 
                   is = walk .is;
                   walked-is = refl;
                   few = walk .few;
-                  paced = λ cells errors p.
-                      let a = p .chains in let b = p .births in let c = p .results in let f = p .both in
-                      record { chains = omega arith; births = omega arith; results = omega arith; both = omega arith };
+                  onward = onward-left z;
                 };
             planned-not = walk .planned ∙ le-ltb (so .chains) ended (omega arith);
             counts-kept = refl;
@@ -106,21 +112,30 @@ module _ (s : List ℕ) (view : View) (w : List ℕ) (list : ℕ) (x : Term) (r 
             let b = planned-within (tableOf s) x (x .class) (readingIn w r) (so .chains) (walk .walk) k ended (walk .is) in
             let o = b .out (so .counts .cells) in
             let count = b .count in
-            let few = o .both in let births = o .births-are in
-            let next = told .next in
+            let few = o .both in
+            let g = grows in
             let i = result-count list w₁ (so .counts) w₂ n′ outcome told in
             let j = error-count list w₁ (so .counts) w₂ n′ outcome told in
-            let p1 = p .births in let p2 = p .results in let p3 = p .both in
-            record { chains = at-most; births = omega arith; results = omega arith; both = omega arith }
+            let p2 = p .results in let p3 = p .both in
+            record { chains = at-most; unborn = λ q. absurd (z (omega arith)); results = omega arith; both = omega arith }
+
+        onward-took : Onward so (soFar n′ (so .walked + k) ended)
+        onward-took =
+            record {
+              leads =
+                  subst (λ (m : ℕ). Leads (so .counts .cells) (so .chains) m ended) (sym (told .next))
+                  (leads-takes (tableOf s) x (readingIn w r) (so .counts .cells) (so .chains) (walk .walk) k ended (walk .is));
+              paced = paced-on;
+            }
 
         pub took-way : Takes (tableOf s) x list w r so w₂ (soFar n′ (so .walked + k) ended)
         took-way =
             let g = grows in
-            let room = room-planned (tableOf s) x (readingIn w r) (so .counts) (so .chains) (walk .walk) k ended (walk .is) births-fit results-fit errors-fit in
+            let room = room-planned (tableOf s) x (readingIn w r) (so .counts) (so .chains) (walk .walk) k ended (walk .is) (y .roomy .found) results-fit errors-fit in
             let first = since-planted list w w₁ (so .counts) (y .area) (d .planted) in
             let then = since-told list w₁ (so .counts) w₂ n′ outcome (planted-area list w w₁ (so .counts) (y .area) (d .planted)) room told in
             record {
-              walks = record { tree = walk .walk; reductions = k; is = walk .is; walked-is = refl; few = walk .few; paced = paced-on };
+              walks = record { tree = walk .walk; reductions = k; is = walk .is; walked-is = refl; few = walk .few; onward = onward-took };
               planned-is = walk .planned ∙ lt-ltb (so .chains) ended (omega arith);
               since = since-then list w w₁ w₂ (so .counts) (so .counts) n′ (nothingApplied (so .counts .cells)) outcome first then;
             }
