@@ -12,7 +12,7 @@ use meaning::StateNo;
 use meaning::View;
 use table::Checked;
 
-const ROOM: usize = 16;
+const ROOM: usize = meaning::MAX_CHAINS;
 
 // So many marks are shown.
 const SHOWN: usize = 4;
@@ -105,7 +105,7 @@ fn plan_checked(table: &[u8], view: View, class: u16, second: u16, height: u16, 
     let pool = line(second);
     let top = CellNo(height - 1);
     let mut marks = [0u8; 4096];
-    if cells::linked_from(&pool, 64, 512, height, top) {
+    if cells::linked_from(&pool, 64, meaning::MAX_STATES, height, top) {
         let planned = chains::plan_stack(
             table,
             view,
@@ -174,7 +174,7 @@ fn ask_takes(table: &[u8], view: View, class: u16, second: u16, height: u16)
     let pool = line(second);
     let top = CellNo(height - 1);
     let mut marks = [0u8; 4096];
-    if cells::linked_from(&pool, 64, 512, height, top) {
+    if cells::linked_from(&pool, 64, meaning::MAX_STATES, height, top) {
         say(b": takes it: ");
         say_answer(chains::can_plan_stack(table, view, &pool, height, top, class, &mut marks));
     }
@@ -187,7 +187,7 @@ fn ask_recovers(table: &[u8], view: View, second: u16, height: u16)
     let pool = line(second);
     let top = CellNo(height - 1);
     let mut marks = [0u8; 4096];
-    if cells::linked_from(&pool, 64, 512, height, top) {
+    if cells::linked_from(&pool, 64, meaning::MAX_STATES, height, top) {
         say(b"; recovers: ");
         say_answer(chains::recovers_stack(table, view, &pool, height, top, &mut marks));
         say(b"\n");

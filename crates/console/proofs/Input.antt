@@ -3,18 +3,32 @@ use mathlib.Core.Path.{_≡_, refl, ap}
 use mathlib.Core.Bool.{Bool, true, false}
 use mathlib.Core.Logic.{_⊎_, inl, inr}
 use mathlib.Core.List.{List}
-use Prim.Native.Nat.{ℕ, _+_, _<_, _≤_}
+use Prim.Native.Nat.{ℕ, _+_, _-_, _<_, _≤_}
 use native.Mathlib.Omega.{arith}
 use lib.Dec.{eqb, ltb}
-use lib.ListN.{getD, set}
+use lib.ListN.{length, getD, set, List·getD-eq-default}
 use borrow.Author.Tests.{eq-eqb, ne-eqb, ltb-false, lt-ltb, le-ltb}
-use Rattle.meaning.specs.Basics.{if_then_else_}
-use Rattle.console.specs.Input.{lineRoom, pieceRoom, Refilled, Fetched, PutIs, endedLine, endedInput, Fits}
+use Rattle.meaning.specs.Basics.{if_then_else_, both}
+use Rattle.meaning.proofs.Booleans.{both-true, both-false}
+use Rattle.console.specs.Input.{lineRoom, pieceRoom, begunBy, Refilled, Fetched, PutIs, withoutReturn, endedLine, endedInput}
 use Rattle.console.specs.declared.lines.Rest.{Rest}
 use Rattle.console.specs.declared.lines.Byte.{Byte}
 use Rattle.console.specs.declared.lines.Byte.the-variants as byte
 use Rattle.console.specs.declared.lines.Next.{Next}
 use Rattle.console.specs.declared.lines.Next.the-variants as next
+
+-- A piece that is begun.
+module _ (piece : List ℕ) (end : ℕ) where
+  pub begun-end : end ≡ 0 → byte.End ≡ begunBy piece end
+  unfolding begunBy
+  begun-end h = rw (eq-eqb end 0 h)
+
+  pub begun-byte : (end ≡ 0 → ⊥) → byte.Is (getD piece 0 0) (record { at = 1; end = end }) ≡ begunBy piece end
+  unfolding begunBy
+  begun-byte h = rw (ne-eqb end 0 h)
+
+  pub refilled : end ≤ length piece → (r : Byte) → r ≡ begunBy piece end → Refilled piece r
+  refilled l r e = record { end = end; within = l; is = e }
 
 -- The next byte.
 module _ (piece : List ℕ) (rest : Rest) where
@@ -40,53 +54,35 @@ module _ (line : List ℕ) (length byte : ℕ) where
   put-past h = record { counts = rw (le-ltb length 131100 h); bytes = rw (le-ltb length 131100 h) }
 
 -- The end of a line and of the input.
-module _ (length : ℕ) (rest : Rest) where
-  pub line-too-long : lineRoom < length → next.TooLong rest ≡ endedLine length rest
+module _ (line : List ℕ) (n : ℕ) where
+  pub nothing-cut : n ≡ 0 → n ≡ withoutReturn line n
+  unfolding withoutReturn
+  nothing-cut h = rw (le-ltb 0 n (let l : n ≤ 0 = omega arith in l))
+
+  pub return-cut : (n ≡ 0 → ⊥) → getD line (n - 1) 0 ≡ 13 → n - 1 ≡ withoutReturn line n
+  unfolding withoutReturn
+  return-cut z h = rw (both-true (ltb 0 n) (eqb (getD line (n - 1) 0) 13) (lt-ltb 0 n (let l : 0 < n = omega arith in l)) (eq-eqb (getD line (n - 1) 0) 13 h))
+
+  pub no-return : (getD line (n - 1) 0 ≡ 13 → ⊥) → n ≡ withoutReturn line n
+  unfolding withoutReturn
+  no-return h = rw (ne-eqb (getD line (n - 1) 0) 13 h, both-false (ltb 0 n))
+
+  pub past-line : length line ≤ n - 1 → n ≡ withoutReturn line n
+  past-line h = no-return (λ e. let d = List·getD-eq-default line 0 h in absurd (omega arith))
+
+module _ (line : List ℕ) (n : ℕ) (rest : Rest) where
+  pub line-too-long : lineRoom < n → next.TooLong rest ≡ endedLine line n rest
   unfolding endedLine
-  line-too-long h = rw (lt-ltb 131100 length h)
+  line-too-long h = rw (lt-ltb 131100 n h)
 
-  pub line-is : length ≤ lineRoom → next.Line length rest ≡ endedLine length rest
+  pub line-is : n ≤ lineRoom → (m : ℕ) → m ≡ withoutReturn line n → next.Line m rest ≡ endedLine line n rest
   unfolding endedLine
-  line-is h = rw (le-ltb 131100 length h)
+  line-is h m e = rw (le-ltb 131100 n h, e)
 
-  pub input-over : length ≡ 0 → next.End ≡ endedInput length rest
+  pub input-over : n ≡ 0 → next.End ≡ endedInput line n rest
   unfolding endedInput
-  input-over h = rw (eq-eqb length 0 h)
+  input-over h = rw (eq-eqb n 0 h)
 
-  pub input-line : (length ≡ 0 → ⊥) → (r : Next) → r ≡ endedLine length rest → r ≡ endedInput length rest
+  pub input-line : (n ≡ 0 → ⊥) → (r : Next) → r ≡ endedLine line n rest → r ≡ endedInput line n rest
   unfolding endedInput
-  input-line h r e = rw (ne-eqb length 0 h) e
-
--- What is given as a line fits.
-abbrev lengthOf : Next → ℕ
-lengthOf (next.Line length rest) = length
-lengthOf (next.TooLong rest) = 0
-lengthOf next.End = 0
-
-fits-by : (r : Next) → lengthOf r ≤ lineRoom → Fits r
-fits-by r h = record { line = λ length rest e. let n = ap lengthOf e in omega arith }
-
-short-line : (length : ℕ) (rest : Rest) → lengthOf (endedLine length rest) ≤ lineRoom
-unfolding endedLine
-short-line length rest = at (ltb 131100 length) refl
-  where
-    at : (b : Bool) → ltb 131100 length ≡ b → lengthOf (if b then next.TooLong rest else next.Line length rest) ≤ lineRoom
-    at true e = omega arith
-    at false e = ltb-false 131100 length e
-
-short-input : (length : ℕ) (rest : Rest) → lengthOf (endedInput length rest) ≤ lineRoom
-unfolding endedInput
-short-input length rest = at (eqb length 0)
-  where
-    at : (b : Bool) → lengthOf (if b then next.End else endedLine length rest) ≤ lineRoom
-    at true = omega arith
-    at false = short-line length rest
-
-pub line-fits : (length : ℕ) (rest : Rest) (r : Next) → r ≡ endedLine length rest → Fits r
-line-fits length rest r e = let l = short-line length rest in let n = ap lengthOf e in fits-by r (omega arith)
-
-pub input-fits : (length : ℕ) (rest : Rest) (r : Next) → r ≡ endedInput length rest → Fits r
-input-fits length rest r e = let l = short-input length rest in let n = ap lengthOf e in fits-by r (omega arith)
-
-pub end-fits : Fits next.End
-end-fits = fits-by next.End (omega arith)
+  input-line h r e = rw (ne-eqb n 0 h) e

@@ -1,19 +1,20 @@
 -- Digits, numbers and terms in a line, by the ways out of the code. Assumes nothing.
 use mathlib.Core.Path.{_≡_, refl, sym, ap, ap₂, _∙_}
-use mathlib.Core.Bool.{Bool, true, false}
+use mathlib.Core.Bool.{Bool, true, false, not}
 use mathlib.Core.List.{List, [], _∷_}
 use Prim.Native.Nat.{ℕ, suc, _+_, _-_, _*_, _<_, _≤_}
 use native.Mathlib.Omega.{arith}
 use lib.Dec.{eqb, ltb, leb}
 use lib.ListN.{length, getD, take, drop, drop-of-length-le}
-use lib.Seq.{drop-cons}
 use borrow.Author.Tests.{eq-eqb, ne-eqb, ltb-true, ltb-false, leb-true, leb-false, lt-ltb, le-ltb, le-leb, lt-leb}
 use Rattle.meaning.specs.Basics.{both, isNil}
-use Rattle.meaning.proofs.Booleans.{no-false, both-true, both-false, not-both}
-use Rattle.console.specs.Text.{digitOf, digits, numberFrom, greatest, grownBy, digitsAt, ScanIs, pastBlank, numberAt, lastNumber, nextNumber, valueOf, shortOf, termAt, beginsWith, firstOf}
+use Rattle.meaning.proofs.Booleans.{no-false, not-no, not-yes, both-true, not-both}
+use Rattle.console.proofs.Trimming.{drop-at}
+use Rattle.console.specs.Text.{isBlank, blanks, digitOf, digits, numberFrom, greatest, grownBy, digitsAt, ScanIs, pastBlanks, numberAt, lastNumber, nextNumber, valueOf, shortOf, termAt, beginsWith, behindWord, firstOf}
 use Rattle.console.specs.declared.words.Number.{Number}
 use Rattle.console.specs.declared.words.Number.the-variants as number
 use Rattle.console.specs.declared.words.Parsed.the-variants as parsed
+use Rattle.console.specs.declared.words.Behind.the-variants as behind
 use Rattle.console.specs.declared.words.Scan.{Scan}
 
 -- A byte within two bounds, or outside them.
@@ -72,20 +73,6 @@ module _ (n v d : ℕ) (same : n ≤ greatest → v ≡ n) where
           let g = grown-great v d l in
           omega arith
 
--- The blank.
-module _ (line : List ℕ) (i : ℕ) where
-  pub blank-there : i < length line → getD line i 0 ≡ 32 → i + 1 ≡ pastBlank line i
-  unfolding pastBlank
-  blank-there l e = rw (both-true (ltb i (length line)) (eqb (getD line i 0) 32) (lt-ltb i (length line) l) (eq-eqb (getD line i 0) 32 e))
-
-  pub no-blank : (getD line i 0 ≡ 32 → ⊥) → i ≡ pastBlank line i
-  unfolding pastBlank
-  no-blank e = rw (ne-eqb (getD line i 0) 32 e, both-false (ltb i (length line)))
-
-  pub line-ended : length line ≤ i → i ≡ pastBlank line i
-  unfolding pastBlank
-  line-ended l = rw (le-ltb i (length line) l)
-
 -- The loop over digits: n is the number so far, which the code has only up to the greatest.
 pub record Scanned (line : List ℕ) (at value i : ℕ) : Type 0 where
   pub so-far : ℕ
@@ -96,11 +83,6 @@ pub record Scanned (line : List ℕ) (at value i : ℕ) : Type 0 where
 
 pub scan-begins : (line : List ℕ) (at : ℕ) → Scanned line at 0 at
 scan-begins line at = record { so-far = 0; number = refl; long = refl; same = λ h. refl; great = λ h. h }
-
-drop-at : (line : List ℕ) (i : ℕ) → i < length line → drop i line ≡ getD line i 0 ∷ drop (i + 1) line
-drop-at line i h =
-    let u : suc i ≡ i + 1 = omega arith in
-    drop-cons line i 0 h ∙ ap (λ (k : ℕ). getD line i 0 ∷ drop k line) u
 
 module _ (line : List ℕ) (at value i : ℕ) (g : Scanned line at value i) where
   -- no digit is left
@@ -160,7 +142,7 @@ module _ (line : List ℕ) (at : ℕ) (r : Scan) (g : ScanIs line at r) where
       by false p true q = rw (p, q)
       by false p false q = let l = ltb-false greatest (numberFrom 0 (digitsAt line at)) q in let e = g .same l in absurd (omega arith)
 
-  pub number-is : (r .end ≡ at → ⊥) → r .value ≤ greatest → (next : ℕ) → next ≡ pastBlank line (r .end) → number.Is (r .value) next ≡ numberAt line at
+  pub number-is : (r .end ≡ at → ⊥) → r .value ≤ greatest → (next : ℕ) → next ≡ pastBlanks line (r .end) → number.Is (r .value) next ≡ numberAt line at
   unfolding numberAt
   number-is z h next f = by (isNil (digitsAt line at)) refl (ltb greatest (numberFrom 0 (digitsAt line at))) refl
     where
@@ -173,23 +155,23 @@ module _ (line : List ℕ) (at : ℕ) (r : Scan) (g : ScanIs line at r) where
       by false p true q = let l = g .great (ltb-true greatest (numberFrom 0 (digitsAt line at)) q) in absurd (omega arith)
       by false p false q =
           let e = g .same (ltb-false greatest (numberFrom 0 (digitsAt line at)) q) in
-          let w : next ≡ pastBlank line (at + length (digitsAt line at)) = f ∙ ap (pastBlank line) (g .end) in
+          let w : next ≡ pastBlanks line (at + length (digitsAt line at)) = f ∙ ap (pastBlanks line) (g .end) in
           (λ i. number.Is (e i) (w i)) ∙ rw (p, q)
 
 -- The last number of a line.
-module _ (line : List ℕ) (at : ℕ) (q : Number) (e : q ≡ numberAt line at) where
+module _ (line : List ℕ) (at from : ℕ) (q : Number) (past : from ≡ pastBlanks line at) (e : q ≡ numberAt line from) where
   pub last-none : q ≡ number.Not → number.Not ≡ lastNumber line at
   unfolding lastNumber
-  last-none f = rw (← e, f)
+  last-none f = rw (← past, ← e, f)
 
   module _ (value next : ℕ) (f : q ≡ number.Is value next) where
     pub last-is : next ≡ length line → number.Is value next ≡ lastNumber line at
     unfolding lastNumber
-    last-is h = rw (← e, f, eq-eqb next (length line) h)
+    last-is h = rw (← past, ← e, f, eq-eqb next (length line) h)
 
     pub last-not : (next ≡ length line → ⊥) → number.Not ≡ lastNumber line at
     unfolding lastNumber
-    last-not h = rw (← e, f, ne-eqb next (length line) h)
+    last-not h = rw (← past, ← e, f, ne-eqb next (length line) h)
 
 -- The number after another.
 pub next-none : (line : List ℕ) (before : Number) → before ≡ number.Not → number.Not ≡ nextNumber line before
@@ -217,10 +199,10 @@ unfolding shortOf
 short-same v h = rw (le-ltb 65535 v h)
 
 -- The four numbers.
-module _ (line : List ℕ) (at : ℕ) (a b c d : Number) (ea : a ≡ numberAt line at) (eb : b ≡ nextNumber line a) (ec : c ≡ nextNumber line b) (ed : d ≡ nextNumber line c) where
+module _ (line : List ℕ) (at from : ℕ) (a b c d : Number) (past : from ≡ pastBlanks line at) (ea : a ≡ numberAt line from) (eb : b ≡ nextNumber line a) (ec : c ≡ nextNumber line b) (ed : d ≡ nextNumber line c) where
   pub term-none : d ≡ number.Not → parsed.Not ≡ termAt line at
   unfolding termAt
-  term-none f = rw (← ea, ← eb, ← ec, ← ed, f)
+  term-none f = rw (← past, ← ea, ← eb, ← ec, ← ed, f)
 
   module _ (end next : ℕ) (f : d ≡ number.Is end next) where
     pub term-is : next ≡ length line → (v class value start : ℕ) → v ≡ valueOf a → class ≡ shortOf v → value ≡ valueOf b → start ≡ valueOf c →
@@ -228,11 +210,11 @@ module _ (line : List ℕ) (at : ℕ) (a b c d : Number) (ea : a ≡ numberAt li
     unfolding termAt
     term-is h v class value start o p q r =
         let k : class ≡ shortOf (valueOf a) = p ∙ ap shortOf o in
-        (λ i. parsed.Is (record { class = k i; value = q i; start = r i; end = end })) ∙ rw (← ea, ← eb, ← ec, ← ed, f, eq-eqb next (length line) h)
+        (λ i. parsed.Is (record { class = k i; value = q i; start = r i; end = end })) ∙ rw (← past, ← ea, ← eb, ← ec, ← ed, f, eq-eqb next (length line) h)
 
     pub term-not : (next ≡ length line → ⊥) → parsed.Not ≡ termAt line at
     unfolding termAt
-    term-not h = rw (← ea, ← eb, ← ec, ← ed, f, ne-eqb next (length line) h)
+    term-not h = rw (← past, ← ea, ← eb, ← ec, ← ed, f, ne-eqb next (length line) h)
 
 -- A word at the line's front: i of its bytes were found, and the rest decides.
 module _ (line word : List ℕ) (i : ℕ) (same : beginsWith (drop i line) (drop i word) ≡ beginsWith line word) where
@@ -256,6 +238,25 @@ module _ (line word : List ℕ) (i : ℕ) (same : beginsWith (drop i line) (drop
       pub byte-same : getD line i 0 ≡ getD word i 0 → beginsWith (drop (i + 1) line) (drop (i + 1) word) ≡ beginsWith line word
       byte-same h = rw (eq-eqb (getD line i 0) (getD word i 0) h) at both-on
 
+-- Behind a word.
+module _ (line word : List ℕ) (t : Bool) (is : t ≡ beginsWith line word) where
+  pub another-word : not t ≡ true → behind.Not ≡ behindWord line word
+  unfolding behindWord
+  another-word h = rw (← is, not-yes t h)
+
+  module _ (h : not t ≡ false) (next : ℕ) (past : next ≡ pastBlanks line (length word)) where
+    pub behind-blanks : length word < next → behind.At next ≡ behindWord line word
+    unfolding behindWord
+    behind-blanks l = rw (← is, not-no t h, ← past, lt-ltb (length word) next l)
+
+    pub behind-line : length line ≤ length word → next ≤ length word → behind.At next ≡ behindWord line word
+    unfolding behindWord
+    behind-line l k = rw (← is, not-no t h, ← past, le-ltb (length word) next k, le-leb (length line) (length word) l)
+
+    pub longer-word : length word < length line → next ≤ length word → behind.Not ≡ behindWord line word
+    unfolding behindWord
+    longer-word l k = rw (← is, not-no t h, ← past, le-ltb (length word) next k, lt-leb (length line) (length word) l)
+
 -- The front of a line.
 module _ (bytes : List ℕ) (n : ℕ) where
   pub first-some : n ≤ length bytes → take n bytes ≡ firstOf bytes n
@@ -268,9 +269,14 @@ module _ (bytes : List ℕ) (n : ℕ) where
 
 -- The trace's first line, `3 9 0 1`; and a number that is one too great for 32 bits.
 pub first-line : termAt (51 ∷ 32 ∷ 57 ∷ 32 ∷ 48 ∷ 32 ∷ 49 ∷ []) 0 ≡ parsed.Is (record { class = 3; value = 9; start = 0; end = 1 })
-unfolding digitOf digits numberFrom pastBlank numberAt nextNumber valueOf shortOf termAt
+unfolding isBlank blanks digitOf digits numberFrom pastBlanks numberAt nextNumber valueOf shortOf termAt
 first-line = refl
 
+-- The same with blanks and a tab more, two blanks at the front, a blank and a tab behind the 3.
+pub spaced-line : termAt (32 ∷ 32 ∷ 51 ∷ 32 ∷ 9 ∷ 57 ∷ 32 ∷ 48 ∷ 32 ∷ 32 ∷ 49 ∷ 32 ∷ []) 0 ≡ parsed.Is (record { class = 3; value = 9; start = 0; end = 1 })
+unfolding isBlank blanks digitOf digits numberFrom pastBlanks numberAt nextNumber valueOf shortOf termAt
+spaced-line = refl
+
 pub one-too-great : numberAt (52 ∷ 50 ∷ 57 ∷ 52 ∷ 57 ∷ 54 ∷ 55 ∷ 50 ∷ 57 ∷ 54 ∷ []) 0 ≡ number.Not
-unfolding digitOf digits numberFrom pastBlank numberAt
+unfolding isBlank blanks digitOf digits numberFrom pastBlanks numberAt
 one-too-great = refl

@@ -22,7 +22,7 @@ use Rattle.state.specs.Layout.{stateLength}
 use Rattle.promises.specs.Buffers.{listsRight, stateFor}
 use Rattle.promises.specs.Calls.{stackOn}
 use Rattle.promises.proofs.Buffers.{found-holds}
-use Rattle.by_value.specs.Reading.{ReadPromise}
+use Rattle.by_value.specs.Reading.{noEntries, ReadPromise}
 use Rattle.by_value.specs.declared.reading.StackRead.{StackRead}
 use Rattle.console.specs.Tracing.{readingsLeft}
 
@@ -31,7 +31,7 @@ abbrev leftIf : (ok : Bool) → State → ℕ
 leftIf ok s = if not ok then 0 else checkState s (λ k. 0) (λ rs. length rs)
 
 abbrev readIf : (ok : Bool) → State → (i : ℕ) → StackCall
-readIf ok s i = if not ok then stackRefused [] WrongTable else checkState s (stackRefused []) (λ rs. stackRight rs i [])
+readIf ok s i = if not ok then stackRefused (noEntries .list) WrongTable else checkState s (stackRefused (noEntries .list)) (λ rs. stackRight rs i (noEntries .list))
 
 -- a reading is there exactly where reading it out answers 0
 answers-there : (ok : Bool) (s : State) (i : ℕ) → eqb (readIf ok s i .says .answer) 0 ≡ ltb i (leftIf ok s)
@@ -41,7 +41,7 @@ answers-there true nothing i = sym (le-ltb i 0 (omega arith))
 answers-there true (just []) i = sym (le-ltb i 0 (omega arith))
 answers-there true (just (r ∷ rs)) i = at (leb (length (r ∷ rs)) i) refl
   where
-    at : (b : Bool) → leb (length (r ∷ rs)) i ≡ b → eqb (stackRight (r ∷ rs) i [] .says .answer) 0 ≡ ltb i (length (r ∷ rs))
+    at : (b : Bool) → leb (length (r ∷ rs)) i ≡ b → eqb (stackRight (r ∷ rs) i (noEntries .list) .says .answer) 0 ≡ ltb i (length (r ∷ rs))
     at true e = rw (e, le-ltb i (length (r ∷ rs)) (leb-true (length (r ∷ rs)) i e))
     at false e = rw (e, lt-ltb i (length (r ∷ rs)) (leb-false (length (r ∷ rs)) i e))
 
@@ -53,7 +53,7 @@ module _ (table state : List ℕ) (long : length state ≡ stateLength) (i : ℕ
   told : eqb (stackNumbers (r .answer) .answer) 0 ≡ ltb i (readingsLeft table state)
   unfolding readingsLeft stackCall
   told =
-      ap (λ (n : StackNumbers). eqb (n .answer) 0) (p .answers [] ∙ ap (λ (b : Bool). stackOn b table state i [] .says) right)
+      ap (λ (n : StackNumbers). eqb (n .answer) 0) (p .answers ∙ ap (λ (b : Bool). stackOn b table state i (noEntries .list) .says) right)
       ∙ answers-there (tableOk table) (stateFor table state) i
 
   pub reading-there : (height mark : ℕ) → r .answer ≡ Read height mark → true ≡ ltb i (readingsLeft table state)

@@ -1,16 +1,35 @@
--- What stands in a line of text: words, numbers in decimal with one blank between two, terms.
+-- What stands in a line of text: words, numbers in decimal with blanks between two, terms.
 use mathlib.Core.Path.{_≡_}
 use mathlib.Core.Bool.{Bool, true, false}
 use mathlib.Core.List.{List, [], _∷_}
-use Prim.Native.Nat.{ℕ, _+_, _-_, _*_, _<_, _≤_}
+use Prim.Native.Nat.{ℕ, suc, _+_, _-_, _*_, _<_, _≤_}
 use lib.Dec.{eqb, ltb, leb}
 use lib.ListN.{length, getD, take, drop}
-use Rattle.meaning.specs.Basics.{if_then_else_, both, isNil}
+use Rattle.meaning.specs.Basics.{if_then_else_, both, either, isNil}
 use Rattle.console.specs.declared.words.Number.{Number}
 use Rattle.console.specs.declared.words.Number.the-variants as number
 use Rattle.console.specs.declared.words.Parsed.{Parsed}
 use Rattle.console.specs.declared.words.Parsed.the-variants as parsed
+use Rattle.console.specs.declared.words.Behind.{Behind}
+use Rattle.console.specs.declared.words.Behind.the-variants as behind
 use Rattle.console.specs.declared.words.Scan.{Scan}
+
+-- A blank or a tab.
+unfoldable pub isBlank : (byte : ℕ) → Bool
+isBlank b = either (eqb b 32) (eqb b 9)
+
+-- How many blanks stand at the front of a text, and where those at its end begin.
+unfoldable pub blanks : List ℕ → ℕ
+blanks [] = 0
+blanks (b ∷ text) = if isBlank b then suc (blanks text) else 0
+
+unfoldable pub textEnd : List ℕ → ℕ
+textEnd [] = 0
+textEnd (b ∷ text) = if both (isBlank b) (eqb (textEnd text) 0) then 0 else suc (textEnd text)
+
+-- Past the blanks that stand from a place on.
+unfoldable pub pastBlanks : List ℕ → (at : ℕ) → ℕ
+pastBlanks line at = at + blanks (drop at line)
 
 -- A digit's value, up to 15; 16 for what is no digit.
 unfoldable pub digitOf : (byte : ℕ) → ℕ
@@ -44,23 +63,19 @@ pub record ScanIs (line : List ℕ) (at : ℕ) (r : Scan) : Type 0 where
   pub same : numberFrom 0 (digitsAt line at) ≤ greatest → r .value ≡ numberFrom 0 (digitsAt line at)
   pub great : greatest < numberFrom 0 (digitsAt line at) → greatest < r .value
 
--- Past one blank, if there is one.
-unfoldable pub pastBlank : List ℕ → (i : ℕ) → ℕ
-pastBlank line i = if both (ltb i (length line)) (eqb (getD line i 0) 32) then i + 1 else i
-
 -- A number of at least one digit and at most 32 bits, and where the line goes on.
 unfoldable pub numberAt : List ℕ → (at : ℕ) → Number
 numberAt line at =
     if isNil (digitsAt line at) then number.Not
     else if ltb greatest (numberFrom 0 (digitsAt line at)) then number.Not
-    else number.Is (numberFrom 0 (digitsAt line at)) (pastBlank line (at + length (digitsAt line at)))
+    else number.Is (numberFrom 0 (digitsAt line at)) (pastBlanks line (at + length (digitsAt line at)))
 
 abbrev pub ifLast : List ℕ → Number → Number
 ifLast line number.Not = number.Not
 ifLast line (number.Is value next) = if eqb next (length line) then number.Is value next else number.Not
 
 unfoldable pub lastNumber : List ℕ → (at : ℕ) → Number
-lastNumber line at = ifLast line (numberAt line at)
+lastNumber line at = ifLast line (numberAt line (pastBlanks line at))
 
 unfoldable pub nextNumber : List ℕ → Number → Number
 nextNumber line number.Not = number.Not
@@ -82,7 +97,7 @@ termOf line class value start (number.Is end next) =
 
 unfoldable pub termAt : List ℕ → (at : ℕ) → Parsed
 termAt line at =
-    let class = numberAt line at in
+    let class = numberAt line (pastBlanks line at) in
     let value = nextNumber line class in
     let start = nextNumber line value in
     termOf line class value start (nextNumber line start)
@@ -93,6 +108,18 @@ beginsWith line [] = true
 beginsWith [] (w ∷ word) = false
 beginsWith (b ∷ line) (w ∷ word) = both (eqb b w) (beginsWith line word)
 
+-- Behind a word that a line begins with, past the blanks; where neither a blank stands there nor the line ends, the line's word is another.
+unfoldable pub behindWord : (line word : List ℕ) → Behind
+behindWord line word =
+    let next = pastBlanks line (length word) in
+    if both (beginsWith line word) (either (ltb (length word) next) (leb (length line) (length word))) then behind.At next else behind.Not
+
 -- The first n bytes; none where there are fewer.
 unfoldable pub firstOf : List ℕ → (n : ℕ) → List ℕ
 firstOf bytes n = if leb n (length bytes) then take n bytes else []
+
+-- A line without the blanks at its end and at its front.
+unfoldable pub trimmedOf : List ℕ → List ℕ
+trimmedOf line =
+    let text = firstOf line (textEnd line) in
+    drop (pastBlanks text 0) text

@@ -1,17 +1,17 @@
 // Lines of standard input, one after the other.
 ghost use mathlib.Core.Path.{_≡_};
-ghost use Rattle.console.specs.Input.{Refilled, Fetched, PutIs, endedLine, endedInput, Fits};
+ghost use Rattle.console.specs.Input.{begunBy, Refilled, Fetched, PutIs, withoutReturn, endedLine, endedInput, LineIs};
 ghost use Rattle.console.specs.Text.{firstOf};
 use libc::STDIN_FILENO;
 
 // A piece of the input, and a line of it: at most a table file of 65,536 bytes in hexadecimal, and a word.
-pub type Piece = [u8; 65536];
+pub type Piece = [u8; PIECE];
 
-pub type Line = [u8; 131100];
+pub type Line = [u8; LINE];
 
-const PIECE: usize = 65536;
+pub const PIECE: usize = 65536;
 
-const LINE: usize = 131100;
+pub const LINE: usize = 131100;
 
 // What of the piece is still to be read.
 pub struct Rest {
@@ -49,11 +49,10 @@ pub fn nothing() -> Rest
     Rest { at: 0, end: 0 }
 }
 
-// The next piece's first byte.
-fn refill(piece: &mut Piece) -> Byte
-    ensures { λ r. ⌜ Refilled (now (piece .exit)) r ⌝ }
+// The first byte of a piece of which so many bytes were read.
+fn begun(piece: &Piece, end: usize) -> Byte
+    ensures { λ r. ⌜ r ≡ begunBy (now (piece .entry)) end ⌝ }
 {
-    let end = io::count(libc::read(STDIN_FILENO, &mut *piece), piece);
     if end == 0 {
         return Byte::End;
     }
@@ -61,6 +60,14 @@ fn refill(piece: &mut Piece) -> Byte
         byte: piece[0],
         rest: Rest { at: 1, end },
     }
+}
+
+// The next piece's first byte.
+fn refill(piece: &mut Piece) -> Byte
+    ensures { λ r. ⌜ Refilled (now (piece .exit)) r ⌝ }
+{
+    let end = io::count(libc::read(STDIN_FILENO, &mut *piece), piece);
+    begun(piece, end)
 }
 
 fn next_byte(piece: &mut Piece, rest: Rest) -> Byte
@@ -93,39 +100,58 @@ fn put(line: &mut Line, length: usize, byte: u8) -> usize
     LINE + 1
 }
 
-fn ended_line(length: usize, rest: Rest) -> Next
-    ensures { λ r. ⌜ r ≡ endedLine length rest ⌝ }
+// How long a line is without a carriage return at its end, which some systems put before the line feed.
+fn without_return(line: &[u8], length: usize) -> usize
+    ensures { λ r. ⌜ r ≡ withoutReturn (now (line .entry)) length ⌝ }
+{
+    if length == 0 {
+        return length;
+    }
+    let last = length - 1;
+    if last < line.len() {
+        if line[last] == b'\r' {
+            return last;
+        }
+    }
+    length
+}
+
+fn ended_line(line: &[u8], length: usize, rest: Rest) -> Next
+    ensures { λ r. ⌜ r ≡ endedLine (now (line .entry)) length rest ⌝ }
 {
     if length > LINE {
         return Next::TooLong { rest };
     }
-    Next::Line { length, rest }
+    Next::Line {
+        length: without_return(line, length),
+        rest,
+    }
 }
 
 // The last line may lack its end.
-fn ended_input(length: usize, rest: Rest) -> Next
-    ensures { λ r. ⌜ r ≡ endedInput length rest ⌝ }
+fn ended_input(line: &[u8], length: usize, rest: Rest) -> Next
+    ensures { λ r. ⌜ r ≡ endedInput (now (line .entry)) length rest ⌝ }
 {
     if length == 0 {
         return Next::End;
     }
-    ended_line(length, rest)
+    ended_line(line, length, rest)
 }
 
 // The next line, without its end. A proved loop has to end, and nothing says that the input does: the loop counts down from a number that no run uses up.
 pub fn next_line(piece: &mut Piece, rest: Rest, line: &mut Line) -> Next
-    ensures { λ r. ⌜ Fits r ⌝ }
+    ensures { λ r. ⌜ LineIs (now (piece .entry)) rest (now (line .entry)) r (now (piece .exit)) (now (line .exit)) ⌝ }
 {
     let mut rest = rest;
     let mut length: usize = 0;
     let mut turns = u64::MAX;
     while turns > 0 {
         match next_byte(&mut *piece, rest) {
-            Byte::End => return ended_input(length, rest),
+            Byte::End => return ended_input(line, length, rest),
             Byte::Is { byte, rest: after } => {
                 rest = after;
                 if byte == b'\n' {
-                    return ended_line(length, rest);
+                    return ended_line(line, length, rest);
                 }
                 length = put(&mut *line, length, byte);
             }

@@ -7,6 +7,7 @@ use super::Work;
 use by_value::reading;
 use by_value::running;
 use machine::Machine;
+use meaning::HEIGHTS;
 use meaning::StackAnswer;
 use meaning::Term;
 
@@ -20,7 +21,7 @@ pub struct Traced {
 fn has_reading(table: &[u8], state: &State, i: u16) -> bool
     ensures { λ r. ⌜ r ≡ ltb i (readingsLeft (now (table .entry)) (now (state .entry))) ⌝ }
 {
-    let read = reading::stack_of(table, state, i, 64);
+    let read = reading::stack_of(table, state, i, HEIGHTS);
     let answer = read.answer;
     match answer {
         StackAnswer::Read { height: _, mark: _ } => true,

@@ -1,6 +1,7 @@
-// What stands in a line: words, numbers with a blank between two, terms.
+// What stands in a line: words, numbers with blanks between two, terms.
 ghost use mathlib.Core.Path.{_≡_};
-ghost use Rattle.console.specs.Text.{digitOf, grownBy, ScanIs, pastBlank, numberAt, lastNumber, nextNumber, valueOf, shortOf, termAt, beginsWith};
+ghost use Rattle.console.specs.Text.{digitOf, grownBy, ScanIs, numberAt, lastNumber, nextNumber, valueOf, shortOf, termAt, beginsWith, behindWord};
+use super::blanks::past_blanks;
 use meaning::Term;
 
 const GREATEST: u64 = 4294967295;
@@ -13,6 +14,12 @@ pub enum Number {
 
 pub enum Parsed {
     Is(Term),
+    Not,
+}
+
+// Where a line goes on behind its first word, or that this is another.
+pub enum Behind {
+    At(usize),
     Not,
 }
 
@@ -44,18 +51,6 @@ fn grown(value: u64, digit: u8) -> u64
     value * 10 + digit as u64
 }
 
-// Past one blank, if there is one.
-fn past_blank(line: &[u8], i: usize) -> usize
-    ensures { λ r. ⌜ r ≡ pastBlank (now (line .entry)) i ⌝ }
-{
-    if i < line.len() {
-        if line[i] == b' ' {
-            return i + 1;
-        }
-    }
-    i
-}
-
 // The decimal digits from a place on.
 fn scanned(line: &[u8], at: usize) -> Scan
     ensures { λ r. ⌜ ScanIs (now (line .entry)) at r ⌝ }
@@ -73,8 +68,8 @@ fn scanned(line: &[u8], at: usize) -> Scan
     Scan { value, end: i }
 }
 
-// The number from a place on, of at least one digit, and past the blank after it.
-pub fn number_at(line: &[u8], at: usize) -> Number
+// The number from a place on, of at least one digit, and past the blanks after it.
+fn number_at(line: &[u8], at: usize) -> Number
     ensures { λ r. ⌜ r ≡ numberAt (now (line .entry)) at ⌝ }
 {
     let scan = scanned(line, at);
@@ -88,15 +83,15 @@ pub fn number_at(line: &[u8], at: usize) -> Number
     }
     Number::Is {
         value: value as u32,
-        next: past_blank(line, end),
+        next: past_blanks(line, end),
     }
 }
 
-// The same, as the line's last.
+// The number past the blanks from a place on, as the line's last.
 pub fn last_number(line: &[u8], at: usize) -> Number
     ensures { λ r. ⌜ r ≡ lastNumber (now (line .entry)) at ⌝ }
 {
-    match number_at(line, at) {
+    match number_at(line, past_blanks(line, at)) {
         Number::Not => Number::Not,
         Number::Is { value, next } => {
             if next == line.len() {
@@ -137,11 +132,11 @@ pub fn short(value: u32) -> u16
     value as u16
 }
 
-// The four numbers of a term, from a place on to the line's end.
+// The four numbers of a term, past the blanks from a place on, to the line's end.
 pub fn term_at(line: &[u8], at: usize) -> Parsed
     ensures { λ r. ⌜ r ≡ termAt (now (line .entry)) at ⌝ }
 {
-    let class = number_at(line, at);
+    let class = number_at(line, past_blanks(line, at));
     let value = next_number(line, class);
     let start = next_number(line, value);
     match next_number(line, start) {
@@ -175,4 +170,22 @@ pub fn begins(line: &[u8], word: &[u8]) -> bool
         i += 1;
     }
     true
+}
+
+// Past a word that the line begins with, and the blanks behind it; a longer word is another.
+pub fn behind_word(line: &[u8], word: &[u8]) -> Behind
+    ensures { λ r. ⌜ r ≡ behindWord (now (line .entry)) (now (word .entry)) ⌝ }
+{
+    if !begins(line, word) {
+        return Behind::Not;
+    }
+    let end = word.len();
+    let next = past_blanks(line, end);
+    if end < next {
+        return Behind::At(next);
+    }
+    if line.len() <= end {
+        return Behind::At(next);
+    }
+    Behind::Not
 }

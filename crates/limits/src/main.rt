@@ -21,7 +21,7 @@ fn term(class: u16) -> Term {
 
 // The first reading's height; 0 if there is no reading.
 fn height(table: &[u8], state: &State) -> u16 {
-    let read = reading::stack_of(table, state, 0, 64);
+    let read = reading::stack_of(table, state, 0, meaning::HEIGHTS);
     let answer = read.answer;
     match answer {
         StackAnswer::Read { height, mark: _ } => height,
@@ -47,10 +47,12 @@ fn feed_words(table: &[u8], state: &mut State, work: &mut Work, count: u16) {
 
 // After these, one term more.
 fn run_table(table: &[u8], count: u16, class: u16) {
-    let mut state = [0u8; 18532];
-    let mut work = [0u8; 46464];
+    let mut state = [0u8; Machine::STATE_LENGTH];
+    let mut work = [0u8; Machine::WORK_LENGTH];
     match Machine::start(table, &mut state, &mut work) {
-        StartAnswer::Refused(_) => saying::line(b": wrong table"),
+        StartAnswer::Refused(_) => {
+            saying::line(b": wrong table");
+        }
         StartAnswer::Done => {
             feed_words(table, &mut state, &mut work, count);
             let traced = terms::feed_term(table, &mut state, &mut work, term(class));

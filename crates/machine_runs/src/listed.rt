@@ -6,11 +6,12 @@ use machine::Machine;
 use meaning::Entry;
 use meaning::ErrorRecord;
 use meaning::FeedAnswer;
+use meaning::HEIGHTS;
 use meaning::StackAnswer;
 use meaning::StateNo;
 use meaning::Term;
 
-fn term(class: u16, value: u32, start: u32, end: u32) -> Term {
+pub fn term(class: u16, value: u32, start: u32, end: u32) -> Term {
     Term {
         class,
         value,
@@ -19,7 +20,7 @@ fn term(class: u16, value: u32, start: u32, end: u32) -> Term {
     }
 }
 
-fn say_record(words: &[u8], record: ErrorRecord) {
+pub fn say_record(words: &[u8], record: ErrorRecord) {
     let state = record.state;
     saying::number(words, record.rule as u64);
     saying::number(b",", state.0 as u64);
@@ -27,14 +28,14 @@ fn say_record(words: &[u8], record: ErrorRecord) {
 }
 
 // The first places and the last.
-fn say_records(errors: [ErrorRecord; 32]) {
+fn say_records(errors: [ErrorRecord; Machine::ERRORS]) {
     say_record(b": ", errors[0]);
     say_record(b" ", errors[1]);
     say_record(b" ", errors[2]);
     say_record(b" .. ", errors[31]);
 }
 
-fn say_entry(words: &[u8], entry: Entry) {
+pub fn say_entry(words: &[u8], entry: Entry) {
     let state = entry.state;
     saying::number(words, state.0 as u64);
     saying::number(b",", entry.value as u64);
@@ -43,7 +44,7 @@ fn say_entry(words: &[u8], entry: Entry) {
 }
 
 // The first places and the last.
-fn say_entries(entries: [Entry; 64]) {
+fn say_entries(entries: [Entry; HEIGHTS]) {
     say_entry(b": ", entries[0]);
     say_entry(b" ", entries[1]);
     say_entry(b" ", entries[2]);
@@ -52,7 +53,7 @@ fn say_entries(entries: [Entry; 64]) {
 }
 
 // The answer, the count of error records, the reductions walked.
-fn say_fed(answer: FeedAnswer) {
+pub fn say_fed(answer: FeedAnswer) {
     let numbers = answer.numbers();
     saying::number(b" gives ", numbers.answer as u64);
     saying::number(b" ", numbers.errors as u64);
@@ -60,7 +61,7 @@ fn say_fed(answer: FeedAnswer) {
 }
 
 // The answer, the height, the mark.
-fn say_read(answer: StackAnswer) {
+pub fn say_read(answer: StackAnswer) {
     let numbers = answer.numbers();
     saying::number(b" gives ", numbers.answer as u64);
     saying::number(b" ", numbers.height as u64);
@@ -78,7 +79,7 @@ fn all_zero(work: &Work) -> bool {
     true
 }
 
-fn say_work(work: &Work) {
+pub fn say_work(work: &Work) {
     if all_zero(work) {
         saying::line(b"; work zero");
         return;
@@ -92,13 +93,13 @@ fn feed(table: &[u8], state: &mut [u8], work: &mut Work, term: Term) {
     saying::number(b" ", term.start as u64);
     saying::number(b" ", term.end as u64);
     work[0] = 9;
-    work[46463] = 9;
+    work[Machine::WORK_LENGTH - 1] = 9;
     let seven = ErrorRecord {
         rule: 7,
         state: StateNo(7),
         mark: 7,
     };
-    let fed = lending::feed_listed(table, state, &mut *work, term, [seven; 32]);
+    let fed = lending::feed_listed(table, state, &mut *work, term, [seven; Machine::ERRORS]);
     let answer = fed.answer;
     say_fed(answer);
     let errors = fed.errors;
@@ -114,7 +115,7 @@ fn stack(table: &[u8], state: &[u8], number: u16) {
         start: 7,
         end: 7,
     };
-    let read = lending::stack_listed(table, state, number, [seven; 64]);
+    let read = lending::stack_listed(table, state, number, [seven; HEIGHTS]);
     let answer = read.answer;
     say_read(answer);
     let entries = read.entries;
@@ -128,7 +129,7 @@ pub fn refused(table: &[u8], state: &mut [u8], work: &mut Work) {
     feed(table, state, work, term(3, 9, 0, 1));
 }
 
-fn start(table: &[u8], state: &mut State, work: &mut Work) {
+pub fn start(table: &[u8], state: &mut State, work: &mut Work) {
     let answer = Machine::start(table, state, work);
     saying::number_line(b"  start gives ", answer.number() as u64);
 }

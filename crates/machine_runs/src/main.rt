@@ -8,12 +8,13 @@ use meaning::Refusal;
 use meaning::StartAnswer;
 
 mod listed;
+mod wrong;
 
-fn say_refusal(refusal: Refusal) {
-    saying::number_line(b" ", refusal.number() as u64);
+fn say_refusal(refusal: Refusal) -> bool {
+    saying::number_line(b" ", refusal.number() as u64)
 }
 
-fn say_start(answer: StartAnswer) {
+fn say_start(answer: StartAnswer) -> bool {
     saying::say(b"  start");
     match answer {
         StartAnswer::Done => saying::line(b" 0"),
@@ -21,7 +22,7 @@ fn say_start(answer: StartAnswer) {
     }
 }
 
-fn say_question(asked: &[u8], answer: QuestionAnswer) {
+fn say_question(asked: &[u8], answer: QuestionAnswer) -> bool {
     saying::say(asked);
     match answer {
         QuestionAnswer::Yes => saying::line(b" yes"),
@@ -52,7 +53,7 @@ fn started(table: &[u8], state: &mut State, work: &mut Work) {
 // A buffer of zeros is a state without readings.
 fn consumed(table: &[u8], work: &mut Work) {
     saying::line(b"consumed");
-    let mut state = [0u8; 18532];
+    let mut state = [0u8; Machine::STATE_LENGTH];
     ask(table, &state, &mut *work);
     listed::refused(table, &mut state, &mut *work);
 }
@@ -68,7 +69,7 @@ fn damaged(table: &[u8], state: &mut State, work: &mut Work) {
 // One byte is missing.
 fn short(table: &[u8], work: &mut Work) {
     saying::line(b"a state buffer that is too short");
-    let mut state = [0u8; 18531];
+    let mut state = [0u8; Machine::STATE_LENGTH - 1];
     say_start(Machine::start(table, &mut state, &mut *work));
     ask(table, &state, &mut *work);
     listed::refused(table, &mut state, &mut *work);
@@ -84,13 +85,14 @@ fn run(path: &[u8]) {
     let n = io::read_full(file, &mut bytes);
     libc::close(file);
     saying::line(path);
-    let mut state = [9u8; 18532];
-    let mut work = [9u8; 46464];
+    let mut state = [9u8; Machine::STATE_LENGTH];
+    let mut work = [9u8; Machine::WORK_LENGTH];
     started(&bytes[..n], &mut state, &mut work);
     consumed(&bytes[..n], &mut work);
     damaged(&bytes[..n], &mut state, &mut work);
     short(&bytes[..n], &mut work);
     listed::lines(&bytes[..n], &mut state, &mut work);
+    wrong::lengths(&bytes[..n], &mut state, &mut work);
 }
 
 fn main() {

@@ -1,17 +1,19 @@
-// A table file in hexadecimal.
+// A table: its bytes in hexadecimal, or a file.
+use console::blanks;
+use console::files;
+use console::files::Contents;
+use console::saying;
 use console::words;
 
 // Room for the longest line's bytes, some more than a table file may have.
-pub type Table = [u8; 65547];
+pub type Table = [u8; TABLE];
 
 pub const TABLE: usize = 65547;
 
-const HEX_AT: usize = 6;
-
-// How many bytes the table has, or a line that is none.
+// How many bytes the table has, or that there is none and whether this could be said.
 pub enum Loaded {
     Bytes(usize),
-    Not,
+    Not { written: bool },
 }
 
 enum Pair {
@@ -45,21 +47,37 @@ fn pair_at(line: &[u8], i: usize) -> Pair {
     )
 }
 
-// The bytes after the word `table`, two digits each.
-pub fn load(line: &[u8], table: &mut Table) -> Loaded {
+// The bytes from a place on, two digits each.
+pub fn load(line: &[u8], at: usize, table: &mut Table) -> Loaded {
+    let mut i = at;
     let mut n: usize = 0;
     while n < TABLE {
-        let at = HEX_AT + 2 * n;
-        if line.len() <= at {
+        if line.len() <= i {
             return Loaded::Bytes(n);
         }
-        match pair_at(line, at) {
-            Pair::Not => return Loaded::Not,
+        match pair_at(line, i) {
+            Pair::Not => {
+                return Loaded::Not {
+                    written: saying::not_right(b"not a command: ", line),
+                };
+            }
             Pair::Is(byte) => {
                 table[n] = byte;
             }
         }
+        i = std::num::wrapping_add_usize(i, 2);
         n += 1;
     }
     Loaded::Bytes(n)
+}
+
+// The bytes of the file that is named from a place on. Why it cannot be read is said on standard error.
+pub fn read(line: &[u8], at: usize, table: &mut Table) -> Loaded {
+    let name = blanks::from(line, at);
+    match files::read(name, table) {
+        Contents::Bytes(length) => Loaded::Bytes(length),
+        Contents::Not => Loaded::Not {
+            written: saying::not_right(b"cannot be read: ", name),
+        },
+    }
 }

@@ -4,10 +4,10 @@ use Rattle.replay.proofs.run.Statement.{statement}
 use Rattle.replay.proofs.run.Tie as tie
 
 abbrev Inv-loop : tie.InvT-loop
-Inv-loop piece₀ line₀ table₀ state₀ work₀ held₀ rest₀ turns₀ t12 piece line table state work held rest turns = Unit {0}
+Inv-loop piece₀ line₀ table₀ state₀ work₀ held₀ rest₀ turns₀ piece line table state work held rest turns = Unit {0}
 
 abbrev μ-loop : tie.MeasureT-loop
-μ-loop piece₀ line₀ table₀ state₀ work₀ held₀ rest₀ turns₀ t12 piece line table state work held rest turns = turns
+μ-loop piece₀ line₀ table₀ state₀ work₀ held₀ rest₀ turns₀ piece line table state work held rest turns = turns
 
 pub run-spec : {M : Type 1} → statement M
 run-spec =
@@ -22,11 +22,13 @@ run-spec =
     (λ c. search needs)
     (λ c. search needs)
     (λ c. search needs)
+    (λ c κs. search needs)
+    (λ c κs. search needs)
     (λ c. search needs)
     (λ c κs. search needs)
+    (λ c κs. search needs)
+    (λ c κs. search needs)
     (λ c. search needs)
-    (λ c κs. search needs)
-    (λ c κs. search needs)
     (λ c. search needs)
     (λ c. search needs)
     (λ c. search needs)

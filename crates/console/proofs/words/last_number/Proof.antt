@@ -14,4 +14,4 @@ returns-3 : tie.Need-returns-3
 returns-3 c = search (last-not)
 
 pub last-number-spec : {M : Type 1} → statement M
-last-number-spec = tie.close (tie.spec (λ c κs. search needs) (λ c. search needs) (λ c. search needs) returns returns-2 returns-3)
+last-number-spec = tie.close (tie.spec (λ c κs. search needs) (λ c κs. search needs) (λ c. search needs) (λ c. search needs) returns returns-2 returns-3)

@@ -5,10 +5,10 @@ use Rattle.replay.proofs.tables.load.Statement.{statement}
 use Rattle.replay.proofs.tables.load.Tie as tie
 
 abbrev Inv-loop : tie.InvT-loop
-Inv-loop line table₀ n₀ table n = Unit {0}
+Inv-loop line at table₀ i₀ n₀ t7 table i n = Unit {0}
 
 abbrev μ-loop : tie.MeasureT-loop
-μ-loop line table₀ n₀ table n = 65547 - n
+μ-loop line at table₀ i₀ n₀ t7 table i n = 65547 - n
 
 pub load-spec : {M : Type 1} → statement M
 load-spec =
@@ -18,13 +18,14 @@ load-spec =
     μ-loop
     (λ c. search needs)
     (λ c. search needs)
+    (λ c κs. search needs)
     (λ c. search needs)
     (λ c. search needs)
     (λ c κs. search needs)
     (λ c. search needs)
     (λ c. search needs)
     (λ c. search needs)
-    (λ c. search needs)
+    (λ c κs. search needs)
     (λ c. search needs)
     (λ c. search needs)
     (λ c. search needs)

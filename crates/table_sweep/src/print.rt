@@ -1,0 +1,11 @@
+// Words and numbers on standard output.
+use libc::STDOUT_FILENO;
+
+pub fn text(words: &[u8]) {
+    io::write_all(STDOUT_FILENO, words);
+}
+
+pub fn number(words: &[u8], n: usize) {
+    io::write_all(STDOUT_FILENO, words);
+    io::print_decimal(STDOUT_FILENO, n as u64);
+}
