@@ -1,4 +1,7 @@
 // Measures the proved check and lookups on a table of about 30 KB: nanoseconds by the clock, instructions by callgrind.
+mod file;
+
+use file::{put, put_field};
 use std::hint::black_box;
 use std::process::Command;
 use std::time::Instant;
@@ -27,16 +30,6 @@ impl Numbers {
         self.0 ^= self.0 << 17;
         (self.0 % u64::from(n)) as u16
     }
-}
-
-fn put(data: &mut Vec<u8>, n: u16) {
-    data.extend(n.to_be_bytes());
-}
-
-fn put_field(table: &mut Vec<u8>, tag: u8, data: &[u8]) {
-    table.push(tag);
-    put(table, data.len() as u16);
-    table.extend(data);
 }
 
 // Rules of all kinds and lengths.

@@ -337,19 +337,33 @@ fn write_changed(path: &Path, folder: &Path, lines: &[Line]) {
     }
 }
 
+const USE: &str = "table FOLDER TEXT..: writes the table files of the texts into the folder";
+
+// The folder and the texts that the arguments name; or what is wrong with them.
+fn named(args: &[String]) -> (&Path, &[String]) {
+    let [folder, texts @ ..] = args else {
+        fail(format!("no folder is named\n{USE}"))
+    };
+    if !Path::new(folder).is_dir() {
+        fail(format!("'{folder}' is no folder\n{USE}"));
+    }
+    if texts.is_empty() {
+        fail(format!("no text is named\n{USE}"));
+    }
+    (Path::new(folder), texts)
+}
+
 fn main() {
     let args: Vec<String> = std::env::args().skip(1).collect();
-    let [folder, texts @ ..] = args.as_slice() else {
-        fail("table FOLDER TEXT..: writes the table files of the texts into the folder")
-    };
+    let (folder, texts) = named(&args);
     for path in texts.iter().map(Path::new) {
         let text = read(path);
         let lines = lines_of(path, &text);
         if lines.first().is_some_and(|(_, l)| l.starts_with("file ")) {
-            write_changed(path, Path::new(folder), &lines);
+            write_changed(path, folder, &lines);
         } else {
             let name = format!("{}.tab", path.file_stem().unwrap_or_default().to_string_lossy());
-            write(Path::new(folder), &name, table(&lines));
+            write(folder, &name, table(&lines));
         }
     }
 }

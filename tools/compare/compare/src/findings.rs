@@ -32,10 +32,13 @@ impl Findings {
         self.others.is_empty() && self.classes.keys().all(|class| !class.broken.none())
     }
 
-    pub fn print(&self) {
+    pub fn print_others(&self) {
         for other in self.others.iter().take(20) {
             println!("THE OTHER PROGRAM DIFFERS FROM THE RULES: {other}");
         }
+    }
+
+    pub fn print_classes(&self) {
         for (class, (count, smallest)) in &self.classes {
             let place = if class.broken.none() { "INSIDE THE CONDITIONS" } else { "outside" };
             println!("{count:>10}  {place}: {}", class.broken.text());

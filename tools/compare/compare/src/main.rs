@@ -26,7 +26,7 @@ mod tidy;
 use arguments::{Arguments, USAGE, arguments};
 use cases::Case;
 use findings::Findings;
-use judge::{Class, broken_at};
+use judge::{Class, broken_at, first_difference};
 use programs::Program;
 use run::{Plan, Run};
 use sample::Sample;
@@ -93,7 +93,8 @@ fn report(run: &Run, arguments: &Arguments, begun: Instant) {
     println!("\ncoverage");
     run.coverage.print();
     println!("\ndifferences, in cases");
-    run.findings.print();
+    run.findings.print_others();
+    run.findings.print_classes();
     let (inside, outside) = (run.coverage.count("inside, terms"), run.coverage.count("outside, terms"));
     let verdict = if run.findings.good() { "no difference inside the conditions" } else { "THERE ARE DIFFERENCES" };
     println!("\n{inside} terms inside the conditions, {outside} outside, {} s: {verdict}", begun.elapsed().as_secs());
@@ -104,15 +105,17 @@ const CASES_SHOWN: usize = 100;
 /// Cases of a script that go through the programs together.
 const CASES_OF_BATCH: usize = 500;
 
-/// Says for each case of a script how the builds differ from the rules.
+/// Says for each case of a script how the builds differ from the rules, and whether the other program does.
 fn on_script(arguments: &Arguments, script: &Path) -> Result<bool, String> {
     let builds = builds_in(arguments);
+    let other = Program::new("other", &arguments.other);
     let text = fs::read_to_string(script).map_err(|e| format!("{}: {e}", script.display()))?;
     let cases = cases::cases_of(&text)?;
     let mut findings = Findings::default();
     let mut terms_inside = 0;
     for batch in cases.chunks(CASES_OF_BATCH) {
         terms_inside += batch.iter().map(terms_inside_of).sum::<usize>();
+        hold_to_rules(&other, batch, &mut findings)?;
         for (case, class) in batch.iter().zip(classes_of(batch, &builds)?) {
             if cases.len() <= CASES_SHOWN {
                 show(&case.name, &class);
@@ -120,12 +123,26 @@ fn on_script(arguments: &Arguments, script: &Path) -> Result<bool, String> {
             class.into_iter().for_each(|(class, _)| findings.differs(case, class));
         }
     }
+    findings.print_others();
     if cases.len() > CASES_SHOWN {
-        findings.print();
+        findings.print_classes();
     }
     println!("{} cases, {terms_inside} terms inside the conditions", cases.len());
     write_smallest(arguments, &findings, &builds)?;
     Ok(findings.good())
+}
+
+/// Notes where the other program departs from the rules.
+fn hold_to_rules(other: &Program, cases: &[Case], findings: &mut Findings) -> Result<(), String> {
+    let steps: Vec<_> = cases.iter().map(Case::steps).collect();
+    let scripts: Vec<String> = cases.iter().map(Case::script).collect();
+    let lengths: Vec<usize> = steps.iter().map(Vec::len).collect();
+    for (number, outcome) in other.run(&scripts, &lengths)?.iter().enumerate() {
+        if let Some(difference) = first_difference(&steps[number], outcome) {
+            findings.other_differs(&cases[number], &difference);
+        }
+    }
+    Ok(())
 }
 
 fn terms_inside_of(case: &Case) -> usize {
