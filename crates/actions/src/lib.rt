@@ -1,11 +1,11 @@
 // The steps of applying, over the work area: one reduction with its action, one shift. Each appends what it gives birth to.
 ghost use Rattle.std.specs.Prelude.{◌≡◌, ◌≤◌};
-ghost use Rattle.meaning.specs.Limits.{maxHeight};
-ghost use Rattle.meaning.specs.TableFile.{table_of, gotoOf, target};
+ghost use Rattle.meaning.specs.Limits.{max_height};
+ghost use Rattle.meaning.specs.TableFile.{table_of, goto_of, target};
 ghost use Rattle.table.specs.Answers.{Belongs};
-ghost use Rattle.actions.specs.Acting.{Pops, shiftedCell};
-ghost use Rattle.actions.specs.Errors.{putError};
-ghost use Rattle.actions.specs.Steps.{baseState, bornCell, Born, BirthReady, RefusalReady, StepReady, StepIs, ShiftReady, ShiftIs};
+ghost use Rattle.actions.specs.Acting.{Pops, shifted_cell};
+ghost use Rattle.actions.specs.Errors.{put_error};
+ghost use Rattle.actions.specs.Steps.{base_state, born_cell, Born, BirthReady, RefusalReady, StepReady, StepIs, ShiftReady, ShiftIs};
 
 use cells::Cell;
 use kinds::Acted;
@@ -43,7 +43,7 @@ pub enum Step {
 // Where a state goes on at a nonterminal; 0 for nowhere, which planning has ruled out.
 fn lands_in(table: &[u8], view: View, state: StateNo, left: u16) -> StateNo
     requires { Belongs table.now view }
-    ensures { result.0 ≡ target (gotoOf (table_of table.now) state.0 left) }
+    ensures { result.0 ≡ target (goto_of (table_of table.now) state.0 left) }
 {
     let goto = table::goto_of(table, view, state, left);
     match goto {
@@ -55,7 +55,7 @@ fn lands_in(table: &[u8], view: View, state: StateNo, left: u16) -> StateNo
 // The top state after popping.
 fn base_state(work: &[u8], reading: Top, len: u16) -> StateNo
     requires { Pops work.now reading len }
-    ensures { result.0 ≡ baseState work.now reading len }
+    ensures { result.0 ≡ base_state work.now reading len }
 {
     let base = popping::cell_below(work, reading, len);
     base.state
@@ -63,8 +63,8 @@ fn base_state(work: &[u8], reading: Top, len: u16) -> StateNo
 
 // The cell of a reduction whose action gave `value`: its state is where the goto leads.
 fn born_cell(table: &[u8], view: View, work: &[u8], reading: Top, rule: Rule, value: u32) -> Cell
-    requires { Belongs table.now view × Pops work.now reading rule.len × (reading.height ≤ maxHeight) }
-    ensures { result ≡ bornCell (table_of table.now) rule value work.now reading }
+    requires { Belongs table.now view × Pops work.now reading rule.len × (reading.height ≤ max_height) }
+    ensures { result ≡ born_cell (table_of table.now) rule value work.now reading }
 {
     let len = popping::high(rule.len);
     let base = base_state(work, reading, len);
@@ -95,7 +95,7 @@ fn reduce_to(
 // A refused action: its error record has the rule, the top state after popping, the mark before the action.
 fn refuse(work: &mut [u8], reading: Top, errors: u16, number: u16, len: u16)
     requires { RefusalReady work.old reading errors len }
-    ensures { work.new ≡ putError work.old errors (record { rule = number; state = record { 0 = baseState work.old reading len }; mark = reading.mark }) }
+    ensures { work.new ≡ put_error work.old errors (record { rule = number; state = record { 0 = base_state work.old reading len }; mark = reading.mark }) }
 {
     let state = base_state(work, reading, len);
     let before = reading.mark;
@@ -152,8 +152,8 @@ pub fn reduce_one(
 
 // The cell of a term that is shifted.
 fn shifted_cell(term: Term, reading: Top, to: StateNo) -> Cell
-    requires { reading.height ≤ maxHeight }
-    ensures { result ≡ shiftedCell term reading to.0 }
+    requires { reading.height ≤ max_height }
+    ensures { result ≡ shifted_cell term reading to.0 }
 {
     let parent = reading.cell;
     Cell {

@@ -8,41 +8,41 @@ use Rattle.meaning.specs.Basics.{if◌then◌else◌, Maybe, nothing, just}
 use Rattle.meaning.specs.declared.Term.{Term}
 use Rattle.table.specs.declared.Action.{Action}
 use Rattle.chains.specs.Actions.{shift_of}
-use Rattle.actions.specs.Acting.{readingIn}
+use Rattle.actions.specs.Acting.{reading_in}
 use Rattle.actions.specs.Steps.{ShiftReady, ShiftIs}
 use Rattle.actions.specs.Telling.{RoomFor, Told}
 use Rattle.actions.specs.declared.Counts.{Counts}
 use Rattle.actions.specs.declared.Top.{Top}
-use Rattle.actions.proofs.Outcomes.{told_none, told-shifted}
-use Rattle.applying.specs.Following.{Higher, endApplied, EndReady, EndDone}
+use Rattle.actions.proofs.Outcomes.{told_none, told_shifted}
+use Rattle.applying.specs.Following.{Higher, end_applied, EndReady, EndDone}
 
 module _ (list : ℕ) (w : List ℕ) (x : Term) (r : Top) (n : Counts) (a : Action) (f : EndReady list w x r n a) where
   module _ (yes : a.shifts ≡ true) where
-    shifts-to : shift_of a ≡ just a.target.0
-    shifts-to = ap (λ (b : Bool). if b then just a.target.0 else nothing) yes
+    shifts_to : shift_of a ≡ just a.target.0
+    shifts_to = ap (λ (b : Bool). if b then just a.target.0 else nothing) yes
 
     high : r.height < 64
-    high = subst (λ (m : Maybe ℕ). Higher m r.height) shifts-to f.higher
+    high = subst (λ (m : Maybe ℕ). Higher m r.height) shifts_to f.higher
 
-    room : RoomFor n (endApplied x (just a.target.0) (readingIn w r) n.cells)
-    room = subst (λ (m : Maybe ℕ). RoomFor n (endApplied x m (readingIn w r) n.cells)) shifts-to f.room
+    room : RoomFor n (end_applied x (just a.target.0) (reading_in w r) n.cells)
+    room = subst (λ (m : Maybe ℕ). RoomFor n (end_applied x m (reading_in w r) n.cells)) shifts_to f.room
 
-    pub shift-ready : ShiftReady list w r n
-    shift-ready =
+    pub shift_ready : ShiftReady list w r n
+    shift_ready =
         let c = room.cells in let e = room.results in
         let area = f.area in
         let l = area.high in
         let h = high in
         record { long = area.long; fits = omega arith; high = omega arith; cells = omega arith; results = omega arith }
 
-    pub told-shift : (w' : List ℕ) (n' : Counts) → ShiftIs x a.target.0 list w r n w' n' → EndDone list w x r n a w' n'
-    told-shift w' n' is =
-        let s = shift-ready in
+    pub told_shift : (w' : List ℕ) (n' : Counts) → ShiftIs x a.target.0 list w r n w' n' → EndDone list w x r n a w' n'
+    told_shift w' n' is =
+        let s = shift_ready in
         let c = s.cells in let e = s.results in
-        subst (λ (m : Maybe ℕ). Told list w n w' n' (endApplied x m (readingIn w r) n.cells)) (sym shifts-to)
-        (told-shifted x a.target.0 list w r n f.area f.stands high c e w' n' is)
+        subst (λ (m : Maybe ℕ). Told list w n w' n' (end_applied x m (reading_in w r) n.cells)) (sym shifts_to)
+        (told_shifted x a.target.0 list w r n f.area f.stands high c e w' n' is)
 
-  pub told-no-shift : a.shifts ≡ false → EndDone list w x r n a w n
-  told-no-shift none =
+  pub told_no_shift : a.shifts ≡ false → EndDone list w x r n a w n
+  told_no_shift none =
       let e : shift_of a ≡ nothing = ap (λ (b : Bool). if b then just a.target.0 else nothing) none in
-      subst (λ (m : Maybe ℕ). Told list w n w n (endApplied x m (readingIn w r) n.cells)) (sym e) (told_none list w n f.area)
+      subst (λ (m : Maybe ℕ). Told list w n w n (end_applied x m (reading_in w r) n.cells)) (sym e) (told_none list w n f.area)

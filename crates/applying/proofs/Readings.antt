@@ -9,7 +9,7 @@ use Rattle.meaning.specs.Applying.{apply}
 use Rattle.meaning.specs.declared.Term.{Term}
 use Rattle.meaning.specs.declared.View.{View}
 use Rattle.meaning.proofs.Trees.{walk_is}
-use Rattle.actions.specs.Acting.{stackIn, readingIn}
+use Rattle.actions.specs.Acting.{stack_in, reading_in}
 use Rattle.actions.specs.Telling.{Told}
 use Rattle.actions.specs.declared.Counts.{Counts}
 use Rattle.actions.specs.declared.Top.{Top}
@@ -25,13 +25,13 @@ module _ (s : List ℕ) (view : View) (w : List ℕ) (list : ℕ) (x : Term) (r 
   fits : StateFits start way
   fits = record { fits = record { area = p.area; stands = p.stands; room = p.room }; follows = p.plans.follows }
 
-  pub reading-ready : StateReady start
-  reading-ready = record { belongs = p.belongs; way = way; fit = fits }
+  pub reading_ready : StateReady start
+  reading_ready = record { belongs = p.belongs; way = way; fit = fits }
 
-  pub reading-done : (w' : List ℕ) (n' : Counts) → StateDone start w' n' → ReadingDone (table_of s) w list x r n w' n'
+  pub reading_done : (w' : List ℕ) (n' : Counts) → StateDone start w' n' → ReadingDone (table_of s) w list x r n w' n'
   unfolding plan
-  reading-done w' n' done most before tree k ended e =
-      let st = states (stackIn w r) in
+  reading_done w' n' done most before tree k ended e =
+      let st = states (stack_in w r) in
       let there = walk_is 32 (table_of s) p.most x.class st 0 p.before p.plans.walk p.walked p.ended p.plans.is in
       let here = walk_is 32 (table_of s) most x.class st 0 before tree k ended e in
-      subst (λ (v : Walk). Told list w n w' n' (apply (table_of s) x v (readingIn w r) n.cells)) (there.tree_is ∙ sym here.tree_is) (done way fits)
+      subst (λ (v : Walk). Told list w n w' n' (apply (table_of s) x v (reading_in w r) n.cells)) (there.tree_is ∙ sym here.tree_is) (done way fits)

@@ -9,57 +9,57 @@ use lib.ListN.{length, get_or}
 use borrow.Author.Tests.{ltb-false}
 use Rattle.meaning.specs.Basics.{both, Maybe, nothing, just}
 use Rattle.meaning.specs.Readings.{states}
-use Rattle.meaning.specs.TableFile.{Table, table_of, actionOf}
+use Rattle.meaning.specs.TableFile.{Table, table_of, action_of}
 use Rattle.meaning.specs.TableRight.{shifts}
-use Rattle.meaning.specs.Chains.{recordAt}
-use Rattle.meaning.specs.Walk.{Walk, refused, walked, walkRules, walkState, walkFrom}
+use Rattle.meaning.specs.Chains.{record_at}
+use Rattle.meaning.specs.Walk.{Walk, refused, walked, walk_rules, walk_state, walk_from}
 use Rattle.meaning.specs.declared.Refusal.TheVariants.{TooHigh, ChainTooLong}
-use Rattle.meaning.proofs.Trees.{if-not}
-use Rattle.cells.specs.Pool.{cellSize, cell_at}
-use Rattle.cells.specs.Stacks.{Pool, entriesOf}
+use Rattle.meaning.proofs.Trees.{if_not}
+use Rattle.cells.specs.Pool.{cell_size, cell_at}
+use Rattle.cells.specs.Stacks.{Pool, entries_of}
 use Rattle.cells.specs.declared.Cell.{Cell}
-use Rattle.cells.proofs.Stacks.{linked-top}
+use Rattle.cells.proofs.Stacks.{linked_top}
 use Rattle.table.specs.Answers.{Belongs, actionAnswer}
 use Rattle.table.specs.declared.Action.{Action}
-use Rattle.chains.specs.Actions.{shift_of, rulesFrom}
+use Rattle.chains.specs.Actions.{shift_of, rules_from}
 use Rattle.chains.specs.Following.{FollowsRules}
-use Rattle.chains.proofs.Actions.{found-shift, found-rules}
-use Rattle.chains.proofs.Following.{follow-state}
-use Rattle.actions.specs.Acting.{stackIn}
-use Rattle.actions.proofs.Reductions.{length-states}
-use Rattle.applying.specs.Following.{marksOf, Place, Way, StateFits, Higher, RulesFit, StateDone, RulesDone}
+use Rattle.chains.proofs.Actions.{found_shift, found_rules}
+use Rattle.chains.proofs.Following.{follow_state}
+use Rattle.actions.specs.Acting.{stack_in}
+use Rattle.actions.proofs.Reductions.{length_states}
+use Rattle.applying.specs.Following.{marks_of, Place, Way, StateFits, Higher, RulesFit, StateDone, RulesDone}
 
 -- A walk that was not refused is nowhere too high to shift.
-higher-by : (sh : Maybe ℕ) (h : ℕ) → both (shifts sh) (ltb 64 (h + 1)) ≡ false → Higher sh h
-higher-by nothing h e = tt
-higher-by (just to) h e = let l = ltb-false 64 (h + 1) e in omega arith
+higher_by : (sh : Maybe ℕ) (h : ℕ) → both (shifts sh) (ltb 64 (h + 1)) ≡ false → Higher sh h
+higher_by nothing h e = tt
+higher_by (just to) h e = let l = ltb-false 64 (h + 1) e in omega arith
 
-higher-at : (left : ℕ) (t : Table) (room class : ℕ) (st : List ℕ) (n c : ℕ) (w : Walk) (n' c' : ℕ) → walkFrom left t room class st n c ≡ walked w n' c' → Higher (recordAt t class st).shift (length st)
-unfolding walkFrom walkState
-higher-at zero t room class st n c w n' c' e =
-    let a = recordAt t class st in
-    higher-by a.shift (length st) (if-not (both (shifts a.shift) (ltb 64 (length st + 1))) TooHigh (walkRules t room 0 (λ s m d. refused ChainTooLong) a.shift st a.rules n c) e).0
-higher-at (suc left) t room class st n c w n' c' e =
-    let a = recordAt t class st in
-    higher-by a.shift (length st) (if-not (both (shifts a.shift) (ltb 64 (length st + 1))) TooHigh (walkRules t room (suc left) (λ s m d. walkFrom left t room class s m d) a.shift st a.rules n c) e).0
+higher_at : (left : ℕ) (t : Table) (room class : ℕ) (st : List ℕ) (n c : ℕ) (w : Walk) (n' c' : ℕ) → walk_from left t room class st n c ≡ walked w n' c' → Higher (record_at t class st).shift (length st)
+unfolding walk_from walk_state
+higher_at zero t room class st n c w n' c' e =
+    let a = record_at t class st in
+    higher_by a.shift (length st) (if_not (both (shifts a.shift) (ltb 64 (length st + 1))) TooHigh (walk_rules t room 0 (λ s m d. refused ChainTooLong) a.shift st a.rules n c) e).0
+higher_at (suc left) t room class st n c w n' c' e =
+    let a = record_at t class st in
+    higher_by a.shift (length st) (if_not (both (shifts a.shift) (ltb 64 (length st + 1))) TooHigh (walk_rules t room (suc left) (λ s m d. walk_from left t room class s m d) a.shift st a.rules n c) e).0
 
-top-state : (p : Pool) (h c : ℕ) → 1 ≤ h → get_or (states (entriesOf p h c)) 0 0 ≡ (p c).state.0
-unfolding entriesOf
-top-state p zero c le = absurd (omega arith)
-top-state p (suc h) c le = refl
+top_state : (p : Pool) (h c : ℕ) → 1 ≤ h → get_or (states (entries_of p h c)) 0 0 ≡ (p c).state.0
+unfolding entries_of
+top_state p zero c le = absurd (omega arith)
+top_state p (suc h) c le = refl
 
 -- the top cell lies in the bytes
-pub cell_room : (p : Place) (y : Way) → StateFits p y → cellSize * p.reading.cell.0 + cellSize ≤ length p.work
+pub cell_room : (p : Place) (y : Way) → StateFits p y → cell_size * p.reading.cell.0 + cell_size ≤ length p.work
 cell_room p y f =
     let s = f.fits.stands in
     let a = f.fits.area in
-    let l = linked-top p.counts.cells (cell_at p.work) p.reading.height p.reading.cell.0 s.low s.stack in
+    let l = linked_top p.counts.cells (cell_at p.work) p.reading.height p.reading.cell.0 s.low s.stack in
     let long = a.long in
     let few = a.cells in
     omega arith
 
 module _ (p : Place) (belongs : Belongs p.table p.ask.view) (x : Cell) (ex : x ≡ cell_at p.work p.reading.cell.0)
-    (a : Action) (ea : a ≡ actionAnswer (actionOf (table_of p.table) x.state.0 p.ask.term.class)) where
+    (a : Action) (ea : a ≡ actionAnswer (action_of (table_of p.table) x.state.0 p.ask.term.class)) where
   abbrev t : Table
   t = table_of p.table
 
@@ -67,23 +67,23 @@ module _ (p : Place) (belongs : Belongs p.table p.ask.view) (x : Cell) (ex : x �
   class = p.ask.term.class
 
   abbrev st : List ℕ
-  st = states (stackIn p.work p.reading)
+  st = states (stack_in p.work p.reading)
 
-  pub fit-rules : (y : Way) → StateFits p y → RulesFit p a 0 y
-  unfolding recordAt
-  fit-rules y f =
-      let e : get_or st 0 0 ≡ x.state.0 = top-state (cell_at p.work) p.reading.height p.reading.cell.0 f.fits.stands.low ∙ sym (ap (λ (c : Cell). c.state.0) ex) in
-      let sh : (recordAt t class st).shift ≡ shift_of a = ap (λ (s : ℕ). (actionOf t s class).shift) e ∙ sym (found-shift p.table p.ask.view belongs x.state.0 class a ea) in
-      let ks : (recordAt t class st).rules ≡ rulesFrom a 0 = ap (λ (s : ℕ). (actionOf t s class).rules) e ∙ sym (found-rules p.table p.ask.view belongs x.state.0 class a ea) in
+  pub fit_rules : (y : Way) → StateFits p y → RulesFit p a 0 y
+  unfolding record_at
+  fit_rules y f =
+      let e : get_or st 0 0 ≡ x.state.0 = top_state (cell_at p.work) p.reading.height p.reading.cell.0 f.fits.stands.low ∙ sym (ap (λ (c : Cell). c.state.0) ex) in
+      let sh : (record_at t class st).shift ≡ shift_of a = ap (λ (s : ℕ). (action_of t s class).shift) e ∙ sym (found_shift p.table p.ask.view belongs x.state.0 class a ea) in
+      let ks : (record_at t class st).rules ≡ rules_from a 0 = ap (λ (s : ℕ). (action_of t s class).rules) e ∙ sym (found_rules p.table p.ask.view belongs x.state.0 class a ea) in
       let g = f.follows in
-      let h = higher-at y.left t y.room class st p.at g.before y.tree g.after g.ended g.is in
-      let fr = follow-state y.left t y.room class (marksOf p.work) p.at y.tree st g in
+      let h = higher_at y.left t y.room class st p.at g.before y.tree g.after g.ended g.is in
+      let fr = follow_state y.left t y.room class (marks_of p.work) p.at y.tree st g in
       record {
         fits = f.fits;
-        higher = subst (λ (m : Maybe ℕ). Higher m p.reading.height) sh (subst (Higher (recordAt t class st).shift) (length-states p.work p.reading) h);
-        follows = subst (λ (l : List ℕ). FollowsRules y.left t y.room class (shift_of a) st l (marksOf p.work) p.at y.tree) ks
-            (subst (λ (m : Maybe ℕ). FollowsRules y.left t y.room class m st (recordAt t class st).rules (marksOf p.work) p.at y.tree) sh fr);
+        higher = subst (λ (m : Maybe ℕ). Higher m p.reading.height) sh (subst (Higher (record_at t class st).shift) (length_states p.work p.reading) h);
+        follows = subst (λ (l : List ℕ). FollowsRules y.left t y.room class (shift_of a) st l (marks_of p.work) p.at y.tree) ks
+            (subst (λ (m : Maybe ℕ). FollowsRules y.left t y.room class m st (record_at t class st).rules (marks_of p.work) p.at y.tree) sh fr);
       }
 
-  pub told-state : (w' : List ℕ) (n' : _) → RulesDone p a 0 w' n' → StateDone p w' n'
-  told-state w' n' done y f = done y (fit-rules y f)
+  pub told_state : (w' : List ℕ) (n' : _) → RulesDone p a 0 w' n' → StateDone p w' n'
+  told_state w' n' done y f = done y (fit_rules y f)

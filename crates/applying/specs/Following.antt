@@ -1,28 +1,28 @@
 -- What the functions that follow a walk ask of the work area, and what they leave there.
 use Rattle.std.specs.Prelude.{ℕ, ◌+◌, ◌<◌, ◌≤◌, ◌≡◌, List, take, drop}
 use Rattle.meaning.specs.Basics.{Maybe, nothing, just}
-use Rattle.meaning.specs.Limits.{maxHeight}
+use Rattle.meaning.specs.Limits.{max_height}
 use Rattle.meaning.specs.Readings.{Reading, states}
 use Rattle.meaning.specs.TableFile.{Table, table_of}
 use Rattle.meaning.specs.Walk.{Walk, walked, plan}
-use Rattle.meaning.specs.Applying.{Applied, nothingApplied, oneResult, shifted, apply}
+use Rattle.meaning.specs.Applying.{Applied, nothing_applied, one_result, shifted, apply}
 use Rattle.meaning.specs.declared.Term.{Term}
 use Rattle.meaning.specs.declared.View.{View}
 use Rattle.table.specs.Answers.{Belongs}
 use Rattle.table.specs.declared.Action.{Action}
-use Rattle.chains.specs.Actions.{shift_of, rulesFrom}
+use Rattle.chains.specs.Actions.{shift_of, rules_from}
 use Rattle.chains.specs.Following.{Follows, FollowsRules, Plans}
-use Rattle.chains.specs.Planning.{marksLength}
-use Rattle.state.specs.Layout.{marksAt}
-use Rattle.actions.specs.Acting.{stackIn, readingIn}
+use Rattle.chains.specs.Planning.{marks_length}
+use Rattle.state.specs.Layout.{marks_at}
+use Rattle.actions.specs.Acting.{stack_in, reading_in}
 use Rattle.actions.specs.Telling.{Area, Stands, RoomFor, Told}
 use Rattle.actions.specs.declared.Counts.{Counts}
 use Rattle.actions.specs.declared.Top.{Top}
 use Rattle.applying.specs.declared.Ask.{Ask}
 
 -- the planner's marks in the work area
-unfoldable pub marksOf : List ℕ → List ℕ
-marksOf w = take marksLength (drop marksAt w)
+unfoldable pub marks_of : List ℕ → List ℕ
+marks_of w = take marks_length (drop marks_at w)
 
 -- Where applying stands: at a reading, with the counts so far, before the mark numbered `at`.
 pub record Place : Type 0 where
@@ -38,7 +38,7 @@ place table ask work reading counts at = record { table = table; ask = ask; work
 
 -- the outcome of a walk from there
 abbrev pub applied : Place → Walk → Applied
-applied p tree = apply (table_of p.table) p.ask.term tree (readingIn p.work p.reading) p.counts.cells
+applied p tree = apply (table_of p.table) p.ask.term tree (reading_in p.work p.reading) p.counts.cells
 
 -- A walk as planning left it: with how many chain steps left and for how many chains it was planned.
 pub record Way : Type 0 where
@@ -55,18 +55,18 @@ pub record Fits (p : Place) (tree : Walk) : Type 0 where
 -- At a state: the walk was planned here, and its marks stand from `at` on.
 pub record StateFits (p : Place) (y : Way) : Type 0 where
   pub fits : Fits p y.tree
-  pub follows : Follows y.left (table_of p.table) y.room p.ask.term.class (states (stackIn p.work p.reading)) (marksOf p.work) p.at y.tree
+  pub follows : Follows y.left (table_of p.table) y.room p.ask.term.class (states (stack_in p.work p.reading)) (marks_of p.work) p.at y.tree
 
 -- where there is a shift, there is height for its entry
 abbrev pub Higher : Maybe ℕ → (height : ℕ) → Type 0
 Higher nothing h = Unit {0}
-Higher (just to) h = h < maxHeight
+Higher (just to) h = h < max_height
 
 -- At the rule list of a state, from the rule numbered `next` on.
 pub record RulesFit (p : Place) (a : Action) (next : ℕ) (y : Way) : Type 0 where
   pub fits : Fits p y.tree
   pub higher : Higher (shift_of a) p.reading.height
-  pub follows : FollowsRules y.left (table_of p.table) y.room p.ask.term.class (shift_of a) (states (stackIn p.work p.reading)) (rulesFrom a next) (marksOf p.work) p.at y.tree
+  pub follows : FollowsRules y.left (table_of p.table) y.room p.ask.term.class (shift_of a) (states (stack_in p.work p.reading)) (rules_from a next) (marks_of p.work) p.at y.tree
 
 pub record StateReady (p : Place) : Type 0 where
   pub belongs : Belongs p.table p.ask.view
@@ -90,18 +90,18 @@ abbrev pub RulesDone : Place → Action → (next : ℕ) → List ℕ → Counts
 RulesDone p a next w' n' = (y : Way) → RulesFit p a next y → ToldBy p y.tree w' n'
 
 -- The end of a rule list: the shift, if there is one.
-abbrev pub endApplied : Term → Maybe ℕ → Reading → (next : ℕ) → Applied
-endApplied x nothing r n = nothingApplied n
-endApplied x (just to) r n = oneResult (shifted x to r n) (n + 1)
+abbrev pub end_applied : Term → Maybe ℕ → Reading → (next : ℕ) → Applied
+end_applied x nothing r n = nothing_applied n
+end_applied x (just to) r n = one_result (shifted x to r n) (n + 1)
 
 pub record EndReady (list : ℕ) (w : List ℕ) (x : Term) (r : Top) (n : Counts) (a : Action) : Type 0 where
   pub area : Area list w n
   pub stands : Stands w r n
   pub higher : Higher (shift_of a) r.height
-  pub room : RoomFor n (endApplied x (shift_of a) (readingIn w r) n.cells)
+  pub room : RoomFor n (end_applied x (shift_of a) (reading_in w r) n.cells)
 
 abbrev pub EndDone : (list : ℕ) → List ℕ → Term → Top → Counts → Action → List ℕ → Counts → Type 0
-EndDone list w x r n a w' n' = Told list w n w' n' (endApplied x (shift_of a) (readingIn w r) n.cells)
+EndDone list w x r n a w' n' = Told list w n w' n' (end_applied x (shift_of a) (reading_in w r) n.cells)
 
 -- What applying a reading asks: it stands, its walk was planned, with its marks in the work area, and there is room for the outcome.
 pub record ReadingReady (s : List ℕ) (view : View) (w : List ℕ) (list : ℕ) (x : Term) (r : Top) (n : Counts) : Type 0 where
@@ -112,11 +112,11 @@ pub record ReadingReady (s : List ℕ) (view : View) (w : List ℕ) (list : ℕ)
   pub before : ℕ
   pub walked : ℕ
   pub ended : ℕ
-  pub plans : Plans (table_of s) most x.class (states (stackIn w r)) before (marksOf w) walked ended
-  pub room : RoomFor n (apply (table_of s) x plans.walk (readingIn w r) n.cells)
+  pub plans : Plans (table_of s) most x.class (states (stack_in w r)) before (marks_of w) walked ended
+  pub room : RoomFor n (apply (table_of s) x plans.walk (reading_in w r) n.cells)
 
 -- What it leaves: for the walk that planning gave, exactly meaning's outcome.
 abbrev pub ReadingDone : Table → List ℕ → (list : ℕ) → Term → Top → Counts → List ℕ → Counts → Type 0
 ReadingDone t w list x r n w' n' =
-    (most before : ℕ) (tree : Walk) (k ended : ℕ) → plan t most x.class (states (stackIn w r)) before ≡ walked tree k ended →
-    Told list w n w' n' (apply t x tree (readingIn w r) n.cells)
+    (most before : ℕ) (tree : Walk) (k ended : ℕ) → plan t most x.class (states (stack_in w r)) before ≡ walked tree k ended →
+    Told list w n w' n' (apply t x tree (reading_in w r) n.cells)

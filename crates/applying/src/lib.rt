@@ -1,13 +1,13 @@
 // Applying: the planned chains of one reading are followed once more by the planner's marks, with actions. Dead ends are passed over.
 ghost use Rattle.std.specs.Prelude.{◌≡◌, ◌<◌, length};
-ghost use Rattle.meaning.specs.Limits.{maxWalked};
+ghost use Rattle.meaning.specs.Limits.{max_walked};
 ghost use Rattle.meaning.specs.Readings.{states};
 ghost use Rattle.meaning.specs.TableFile.{table_of};
 ghost use Rattle.meaning.specs.Walk.{plan};
-ghost use Rattle.chains.specs.Marks.{chainsMark, sizeMark};
-ghost use Rattle.actions.specs.Acting.{stackIn};
-ghost use Rattle.state.specs.Layout.{workLength};
-ghost use Rattle.applying.specs.Following.{marksOf, place, StateReady, StateDone, RulesReady, RulesDone, EndReady, EndDone, ReadingReady, ReadingDone};
+ghost use Rattle.chains.specs.Marks.{chains_mark, size_mark};
+ghost use Rattle.actions.specs.Acting.{stack_in};
+ghost use Rattle.state.specs.Layout.{work_len};
+ghost use Rattle.applying.specs.Following.{marks_of, place, StateReady, StateDone, RulesReady, RulesDone, EndReady, EndDone, ReadingReady, ReadingDone};
 ghost use Rattle.applying.specs.Planting.{PlanReady, PlanDone};
 
 use actions::{Counts, Step, Top};
@@ -33,16 +33,16 @@ struct Rest {
 
 // How many chains end below the reduction with the mark numbered k.
 fn chains_below(work: &[u8], k: usize) -> usize
-    requires { (k < maxWalked) × (length work.now ≡ workLength) }
-    ensures { result ≡ chainsMark (marksOf work.now) k }
+    requires { (k < max_walked) × (length work.now ≡ work_len) }
+    ensures { result ≡ chains_mark (marks_of work.now) k }
 {
     chains::chains_mark(&work[state::MARKS_AT..state::RESULTS_AT], k)
 }
 
 // How many marks that reduction has, with those below it.
 fn marks_of_one(work: &[u8], k: usize) -> usize
-    requires { (k < maxWalked) × (length work.now ≡ workLength) }
-    ensures { result ≡ sizeMark (marksOf work.now) k }
+    requires { (k < max_walked) × (length work.now ≡ work_len) }
+    ensures { result ≡ size_mark (marks_of work.now) k }
 {
     chains::size_mark(&work[state::MARKS_AT..state::RESULTS_AT], k)
 }
@@ -145,7 +145,7 @@ pub fn plan_reading(
     chains: usize,
 ) -> Planned
     requires { PlanReady table.now view work.old room reading chains }
-    ensures { PlanDone (plan (table_of table.now) room class (states (stackIn work.old reading)) chains) work.old work.new result }
+    ensures { PlanDone (plan (table_of table.now) room class (states (stack_in work.old reading)) chains) work.old work.new result }
 {
     chains::plan_within(
         table,

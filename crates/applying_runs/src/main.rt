@@ -2,7 +2,7 @@
 // The tables: T1 and T4 of the known runs; `twice`, T1 with rule 0 twice in one record; `join`, T1 with a Join that is too big as rule 2; `wrap`, T1 with the greatest mark in rule 3.
 ghost use Rattle.std.specs.Prelude.{◌≡◌, true, length};
 ghost use Rattle.table.specs.Answers.{Belongs};
-ghost use Rattle.state.specs.Layout.{workLength};
+ghost use Rattle.state.specs.Layout.{work_len};
 ghost use Rattle.applying_runs.specs.Found.{Found, Ready};
 
 use actions::{Counts, Top};
@@ -28,7 +28,7 @@ fn wide(x: u16) -> u32 {
 
 // The states of a stack, the lowest first.
 fn say_states(work: &[u8], height: u16, top: CellNo)
-    requires { length work.now ≡ workLength }
+    requires { length work.now ≡ work_len }
 {
     if height == 0 {
         return;
@@ -46,7 +46,7 @@ fn say_states(work: &[u8], height: u16, top: CellNo)
 
 // The entries of a stack, top first: state; value; start, end.
 fn say_entries(work: &[u8], height: u16, top: CellNo)
-    requires { length work.now ≡ workLength }
+    requires { length work.now ≡ work_len }
 {
     if height == 0 {
         return;
@@ -73,7 +73,7 @@ fn say_span(value: u32, start: u32, end: u32) {
 
 // The reading i of the list of results.
 fn result_at(work: &[u8], i: u16) -> Top
-    requires { length work.now ≡ workLength }
+    requires { length work.now ≡ work_len }
 {
     if meaning::MAX_READINGS <= i {
         return Top {
@@ -93,7 +93,7 @@ fn result_at(work: &[u8], i: u16) -> Top
 }
 
 fn height_of(work: &[u8], c: CellNo) -> u16
-    requires { length work.now ≡ workLength }
+    requires { length work.now ≡ work_len }
 {
     if 2096 <= c.0 {
         return 0;
@@ -103,7 +103,7 @@ fn height_of(work: &[u8], c: CellNo) -> u16
 }
 
 fn say_result(work: &[u8], i: u16)
-    requires { length work.now ≡ workLength }
+    requires { length work.now ≡ work_len }
 {
     let reading = result_at(work, i);
     say(b"  [");
@@ -116,7 +116,7 @@ fn say_result(work: &[u8], i: u16)
 }
 
 fn say_results(work: &[u8], count: u16)
-    requires { length work.now ≡ workLength }
+    requires { length work.now ≡ work_len }
 {
     let mut i: u16 = 0;
     while i < count {
@@ -126,7 +126,7 @@ fn say_results(work: &[u8], count: u16)
 }
 
 fn say_error(work: &[u8], i: u16)
-    requires { length work.now ≡ workLength }
+    requires { length work.now ≡ work_len }
 {
     if meaning::MAX_ERRORS <= i as usize {
         return;
@@ -142,7 +142,7 @@ fn say_error(work: &[u8], i: u16)
 }
 
 fn say_errors(work: &[u8], count: u16)
-    requires { length work.now ≡ workLength }
+    requires { length work.now ≡ work_len }
 {
     let mut i: u16 = 0;
     while i < count {
@@ -153,7 +153,7 @@ fn say_errors(work: &[u8], count: u16)
 
 // Whether the reading stands in cells of lower numbers than the next one.
 fn found(work: &[u8], reading: Top, counts: Counts) -> bool
-    requires { length work.now ≡ workLength }
+    requires { length work.now ≡ work_len }
     ensures { result ≡ true → Found work.now reading counts }
 {
     if state::STATE_CELLS < counts.cells {
@@ -234,7 +234,7 @@ fn apply_one(
     reading: Top,
     term: Term,
 ) -> Counts
-    requires { Belongs table.now view × (length work.old ≡ workLength) }
+    requires { Belongs table.now view × (length work.old ≡ work_len) }
 {
     let none = Counts {
         cells,
@@ -249,7 +249,7 @@ fn apply_one(
 
 // The same, told: results, then errors. Gives the next cell.
 fn tell_one(table: &[u8], view: View, work: &mut [u8], cells: u16, reading: Top, term: Term) -> u16
-    requires { Belongs table.now view × (length work.old ≡ workLength) }
+    requires { Belongs table.now view × (length work.old ≡ work_len) }
 {
     let counts = apply_one(table, view, &mut *work, cells, reading, term);
     say_results(work, counts.results);
@@ -259,7 +259,7 @@ fn tell_one(table: &[u8], view: View, work: &mut [u8], cells: u16, reading: Top,
 
 // Start's reading, [1], in cell 0.
 fn start(work: &mut [u8]) -> Top
-    requires { length work.old ≡ workLength }
+    requires { length work.old ≡ work_len }
 {
     cells::put_cell(
         &mut *work,
@@ -282,7 +282,7 @@ fn start(work: &mut [u8]) -> Top
 
 // A word of class 3 from 0 to 1, then the class 4 that ends it.
 fn run_checked(table: &[u8], view: View, value: u32, work: &mut [u8])
-    requires { Belongs table.now view × (length work.old ≡ workLength) }
+    requires { Belongs table.now view × (length work.old ≡ work_len) }
 {
     let reading = start(&mut *work);
     let word = Term {

@@ -1,10 +1,10 @@
 // What tools/bench and tools/compare measure from Rust: the check of a table file alone and with one lookup behind it, a start, a feed, and a feed's parts.
 ghost use Rattle.std.specs.Prelude.{◌≡◌, length};
-ghost use Rattle.meaning.specs.TableFile.{table_of, actionOf, gotoOf, target};
-ghost use Rattle.meaning.specs.TableRight.{tableOk};
+ghost use Rattle.meaning.specs.TableFile.{table_of, action_of, goto_of, target};
+ghost use Rattle.meaning.specs.TableRight.{table_ok};
 ghost use Rattle.numbers.specs.Zeros.{zeros};
 ghost use Rattle.table.specs.Answers.{Belongs};
-ghost use Rattle.bench.specs.Measured.{oneIf, place_of, actionTarget, gotoTarget, StartMeasured, FeedMeasured, stateRight, loadedIf};
+ghost use Rattle.bench.specs.Measured.{one_if, place_of, action_target, goto_target, StartMeasured, FeedMeasured, state_right, loaded_if};
 
 use by_value::running;
 use machine::Machine;
@@ -14,7 +14,7 @@ use table::{Checked, Goto};
 // 1 if the table is right, else 0.
 #[unsafe(no_mangle)]
 pub extern "C" fn bench_check(table: &[u8]) -> u32
-    ensures { result ≡ oneIf (tableOk table.now) }
+    ensures { result ≡ one_if (table_ok table.now) }
 {
     match table::check_table(table) {
         Checked::Right(_) => 1,
@@ -24,7 +24,7 @@ pub extern "C" fn bench_check(table: &[u8]) -> u32
 
 fn target_of_action(table: &[u8], view: View, state: u16, class: u16) -> u32
     requires { Belongs table.now view }
-    ensures { result ≡ target (actionOf (table_of table.now) state class).shift }
+    ensures { result ≡ target (action_of (table_of table.now) state class).shift }
 {
     let action = table::action_of(table, view, StateNo(state), class);
     action.target.0 as u32
@@ -32,7 +32,7 @@ fn target_of_action(table: &[u8], view: View, state: u16, class: u16) -> u32
 
 fn target_of_goto(table: &[u8], view: View, state: u16, nonterminal: u16) -> u32
     requires { Belongs table.now view }
-    ensures { result ≡ place_of (gotoOf (table_of table.now) state nonterminal) }
+    ensures { result ≡ place_of (goto_of (table_of table.now) state nonterminal) }
 {
     match table::goto_of(table, view, StateNo(state), nonterminal) {
         Goto::To(target) => target.0 as u32,
@@ -43,7 +43,7 @@ fn target_of_goto(table: &[u8], view: View, state: u16, nonterminal: u16) -> u32
 // The check, and where a state shifts to at a class; 0 if it does not, or the table is wrong.
 #[unsafe(no_mangle)]
 pub extern "C" fn bench_action(table: &[u8], state: u16, class: u16) -> u32
-    ensures { result ≡ actionTarget table.now state class }
+    ensures { result ≡ action_target table.now state class }
 {
     match table::check_table(table) {
         Checked::Right(view) => target_of_action(table, view, state, class),
@@ -54,7 +54,7 @@ pub extern "C" fn bench_action(table: &[u8], state: u16, class: u16) -> u32
 // The check, and where a state goes on after a reduction; 0 if there is no goto, or the table is wrong.
 #[unsafe(no_mangle)]
 pub extern "C" fn bench_goto(table: &[u8], state: u16, nonterminal: u16) -> u32
-    ensures { result ≡ gotoTarget table.now state nonterminal }
+    ensures { result ≡ goto_target table.now state nonterminal }
 {
     match table::check_table(table) {
         Checked::Right(view) => target_of_goto(table, view, state, nonterminal),
@@ -99,7 +99,7 @@ pub extern "C" fn bench_feed(
 // A feed's part: the check of a state. 1 if the state is right, else 0.
 #[unsafe(no_mangle)]
 pub extern "C" fn bench_state(state: &[u8], states: u16) -> u32
-    ensures { result ≡ stateRight state.now states }
+    ensures { result ≡ state_right state.now states }
 {
     if state.len() == state::STATE_LENGTH {
         if state::valid_state(state, states) {
@@ -112,7 +112,7 @@ pub extern "C" fn bench_state(state: &[u8], states: u16) -> u32
 // A feed's part: the cells in use are copied to the work area.
 #[unsafe(no_mangle)]
 pub extern "C" fn bench_load(state: &[u8], work: &mut [u8])
-    ensures { work.new ≡ loadedIf state.now work.old }
+    ensures { work.new ≡ loaded_if state.now work.old }
 {
     if state.len() == state::STATE_LENGTH {
         if work.len() == state::WORK_LENGTH {

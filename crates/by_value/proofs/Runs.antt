@@ -8,9 +8,9 @@ use lib.Dec.{eqb}
 use lib.ListN.{length}
 use Rattle.meaning.specs.Answers.{feedNumbers}
 use Rattle.meaning.specs.Basics.{if◌then◌else◌, isNil, just}
-use Rattle.meaning.specs.Calls.{State, FeedCall, feedRefused, feedEnded, feedRight, feedCall, wrongTerm}
+use Rattle.meaning.specs.Calls.{State, FeedCall, feed_refused, feed_ended, feed_right, feed_call, wrong_term}
 use Rattle.meaning.specs.Feeding.{feed}
-use Rattle.meaning.specs.Identities.{renReading}
+use Rattle.meaning.specs.Identities.{ren_reading}
 use Rattle.meaning.specs.Outcome.{Fed, refusal}
 use Rattle.meaning.specs.Readings.{Reading}
 use Rattle.meaning.specs.TableFile.{Table, table_of}
@@ -19,42 +19,42 @@ use Rattle.meaning.specs.declared.Refusal.TheVariants.{WrongLength, Consumed, Wr
 use Rattle.meaning.specs.declared.Term.{Term}
 use Rattle.meaning.specs.declared.View.{View}
 use Rattle.meaning.specs.declared.FeedNumbers.{FeedNumbers}
-use Rattle.meaning.proofs.Settled.{number-range}
-use Rattle.meaning.proofs.States.{states-kept}
+use Rattle.meaning.proofs.Settled.{number_range}
+use Rattle.meaning.proofs.States.{states_kept}
 use Rattle.numbers.specs.Writing.{Agree}
 use Rattle.numbers.specs.Zeros.{zeros}
 use Rattle.meaning.proofs.Booleans.{both_left}
-use Rattle.lists.specs.Filling.{noRecord, padded}
-use Rattle.state.specs.Check.{validState, StatesKnown}
-use Rattle.state.specs.Readings.{count_of, usedOf, readingsFrom, readingsOf}
+use Rattle.lists.specs.Filling.{no_record, padded}
+use Rattle.state.specs.Check.{valid_state, StatesKnown}
+use Rattle.state.specs.Readings.{count_of, used_of, readings_from, readings_of}
 use Rattle.state.proofs.Valid.{known}
 use Rattle.commit.specs.Committing.{Committed}
-use Rattle.commit.proofs.After.{state-after}
+use Rattle.commit.proofs.After.{state_after}
 use Rattle.feeding.specs.Ending.{Holds, FedIs}
 use Rattle.feeding.specs.declared.Ended.{Ended}
 use Rattle.feeding.specs.declared.Fed.{Fed as FedCode}
 use Rattle.feeding.specs.declared.Fed.TheVariants as fed
-use Rattle.gathering.specs.Gathering.{noErrors}
-use Rattle.promises.proofs.Identities.{state-self}
-use Rattle.promises.specs.Buffers.{lengthsRight, feedLengths, stateFor, workAfter}
-use Rattle.promises.specs.Calls.{SameState, Spared, feedFor}
-use Rattle.checks.specs.Checks.{foundOf}
-use Rattle.by_value.specs.Feeding.{refusedRun, StagesReady, FeedLine, fedIn, EndsReady, EndedRun, feedIn, feedLine, RunLine, RunPromise}
+use Rattle.gathering.specs.Gathering.{no_errors}
+use Rattle.promises.proofs.Identities.{state_self}
+use Rattle.promises.specs.Buffers.{lengths_right, feed_lengths, state_for, work_after}
+use Rattle.promises.specs.Calls.{SameState, Spared, feed_for}
+use Rattle.checks.specs.Checks.{found_of}
+use Rattle.by_value.specs.Feeding.{refused_run, StagesReady, FeedLine, fed_in, EndsReady, EndedRun, feed_in, feed_line, RunLine, RunPromise}
 use Rattle.checks.specs.declared.Found.{Found}
 use Rattle.checks.specs.declared.Found.TheVariants as found
 use Rattle.by_value.specs.declared.running.FeedRun.{FeedRun}
-use Rattle.checks.proofs.Checks.{some-readings, state-long, work-long, view-states, RightFor, right-for, checked_refused, checked-right}
+use Rattle.checks.proofs.Checks.{some_readings, state_long, work_long, view_states, RightFor, right_for, checked_refused, checked_right}
 
-spared-same : (state : List ℕ) → Spared state state
-spared-same state = record { long = refl; cells = λ j p q. refl; slots = λ j p q. refl }
+spared_same : (state : List ℕ) → Spared state state
+spared_same state = record { long = refl; cells = λ j p q. refl; slots = λ j p q. refl }
 
 -- A refusal leaves the state as it was.
-line_refused : (table state : List ℕ) (call : FeedCall) (k : Refusal) → feedRefused (stateFor table state) noErrors.list k ≡ call → RunLine table state call (refusedRun k) state
+line_refused : (table state : List ℕ) (call : FeedCall) (k : Refusal) → feed_refused (state_for table state) no_errors.list k ≡ call → RunLine table state call (refused_run k) state
 line_refused table state call k e =
-    subst (λ (c : FeedCall). RunLine table state c (refusedRun k) state) e (record {
+    subst (λ (c : FeedCall). RunLine table state c (refused_run k) state) e (record {
       leaves =
-          record { answers = refl; readings = state-self (stateFor table state); refused = λ p. refl; compact = λ p. absurd (p (number-range k)); spared = spared-same state; errors-are = refl };
-      count-is = refl;
+          record { answers = refl; readings = state_self (state_for table state); refused = λ p. refl; compact = λ p. absurd (p (number_range k)); spared = spared_same state; errors_are = refl };
+      count_is = refl;
       few = omega arith;
     })
 
@@ -63,128 +63,128 @@ line_as table state call call' r state' e = subst (λ (c : FeedCall). RunLine ta
 
 -- On a table and a state that were found right.
 module _ (table : List ℕ) (view : View) (state work : List ℕ) (y : StagesReady table view state work) (x : Term) where
-  right-here : RightFor table state view
-  right-here = record { belongs = y.belongs; valid = y.valid }
+  right_here : RightFor table state view
+  right_here = record { belongs = y.belongs; valid = y.valid }
 
-  valid-here : validState (table_of table).counts.states state ≡ true
-  valid-here = sym (ap (λ (m : ℕ). validState m state) (view-states table view y.belongs.is)) ∙ y.valid
+  valid_here : valid_state (table_of table).counts.states state ≡ true
+  valid_here = sym (ap (λ (m : ℕ). valid_state m state) (view_states table view y.belongs.is)) ∙ y.valid
 
-  state-here : stateFor table state ≡ just (readingsOf state)
-  state-here = rw valid-here
+  state_here : state_for table state ≡ just (readings_of state)
+  state_here = rw valid_here
 
   -- a refusal of the definition, which names the readings
-  refused-here : (k : Refusal) → feedRefused (stateFor table state) noErrors.list k ≡ feedRefused (just (readingsOf state)) noErrors.list k
-  refused-here k = ap (λ (s : State). feedRefused s noErrors.list k) state-here
+  refused_here : (k : Refusal) → feed_refused (state_for table state) no_errors.list k ≡ feed_refused (just (readings_of state)) no_errors.list k
+  refused_here k = ap (λ (s : State). feed_refused s no_errors.list k) state_here
 
-  pub right-consumed : (n : ℕ) (r : FeedRun) → n ≡ count_of state → n ≡ 0 → r ≡ refusedRun Consumed → RunLine table state (feedIn table state x) r state
-  unfolding feedRight readingsFrom
-  right-consumed n r e z g = rw g (line_refused table state (feedIn table state x) Consumed (refused-here Consumed ∙ rw (nil (count_of state) (sym e ∙ z))))
+  pub right_consumed : (n : ℕ) (r : FeedRun) → n ≡ count_of state → n ≡ 0 → r ≡ refused_run Consumed → RunLine table state (feed_in table state x) r state
+  unfolding feed_right readings_from
+  right_consumed n r e z g = rw g (line_refused table state (feed_in table state x) Consumed (refused_here Consumed ∙ rw (nil (count_of state) (sym e ∙ z))))
     where
-      nil : (k : ℕ) → k ≡ 0 → isNil (readingsFrom state 18432 0 k) ≡ true
+      nil : (k : ℕ) → k ≡ 0 → isNil (readings_from state 18432 0 k) ≡ true
       nil k q = rw q
 
-  module _ (n : ℕ) (e : n ≡ count_of state) (z : n ≡ 0 → ⊥) (b : Bool) (f : b ≡ wrongTerm view.counts.classes x) where
-    some : isNil (readingsOf state) ≡ false
-    some = ap (λ (k : ℕ). isNil (readingsFrom state 18432 0 k)) (sym e) ∙ some-readings state n z
+  module _ (n : ℕ) (e : n ≡ count_of state) (z : n ≡ 0 → ⊥) (b : Bool) (f : b ≡ wrong_term view.counts.classes x) where
+    some : isNil (readings_of state) ≡ false
+    some = ap (λ (k : ℕ). isNil (readings_from state 18432 0 k)) (sym e) ∙ some_readings state n z
 
-    wrong-is : wrongTerm (table_of table).counts.classes x ≡ b
+    wrong_is : wrong_term (table_of table).counts.classes x ≡ b
     unfolding table_of
-    wrong-is = sym (f ∙ ap (λ (v : View). wrongTerm v.counts.classes x) y.belongs.is)
+    wrong_is = sym (f ∙ ap (λ (v : View). wrong_term v.counts.classes x) y.belongs.is)
 
-    pub right-wrong : (r : FeedRun) → b ≡ true → r ≡ refusedRun WrongArgument → RunLine table state (feedIn table state x) r state
-    unfolding feedRight
-    right-wrong r g h = rw h (line_refused table state (feedIn table state x) WrongArgument (refused-here WrongArgument ∙ rw (some, wrong-is, g)))
+    pub right_wrong : (r : FeedRun) → b ≡ true → r ≡ refused_run WrongArgument → RunLine table state (feed_in table state x) r state
+    unfolding feed_right
+    right_wrong r g h = rw h (line_refused table state (feed_in table state x) WrongArgument (refused_here WrongArgument ∙ rw (some, wrong_is, g)))
 
-    abbrev fed-here : Fed
-    fed-here = feed (table_of table) x (readingsOf state) (usedOf state)
+    abbrev fed_here : Fed
+    fed_here = feed (table_of table) x (readings_of state) (used_of state)
 
-    goes : b ≡ false → feedEnded noErrors.list fed-here ≡ feedIn table state x
-    unfolding feedRight
-    goes g = rw (some, wrong-is, g)
+    goes : b ≡ false → feed_ended no_errors.list fed_here ≡ feed_in table state x
+    unfolding feed_right
+    goes g = rw (some, wrong_is, g)
 
-    module _ (g : b ≡ false) (q : FedCode) (work₁ : List ℕ) (h : FedIs fed-here (readingsOf state) (usedOf state) work₁ q) where
-      pub right-refused : (k : Refusal) (r : FeedRun) → q ≡ fed.Refused k → r ≡ refusedRun k → RunLine table state (feedIn table state x) r state
-      right-refused k r u v =
-          let is : fed-here ≡ refusal k (readingsOf state) (usedOf state) = subst (FedIs fed-here (readingsOf state) (usedOf state) work₁) u h in
-          rw v (line_refused table state (feedIn table state x) k (refused-here k ∙ sym (ap (feedEnded noErrors.list) is) ∙ goes g))
+    module _ (g : b ≡ false) (q : FedCode) (work₁ : List ℕ) (h : FedIs fed_here (readings_of state) (used_of state) work₁ q) where
+      pub right_refused : (k : Refusal) (r : FeedRun) → q ≡ fed.Refused k → r ≡ refused_run k → RunLine table state (feed_in table state x) r state
+      right_refused k r u v =
+          let is : fed_here ≡ refusal k (readings_of state) (used_of state) = subst (FedIs fed_here (readings_of state) (used_of state) work₁) u h in
+          rw v (line_refused table state (feed_in table state x) k (refused_here k ∙ sym (ap (feed_ended no_errors.list) is) ∙ goes g))
 
       module _ (ended : Ended) (u : q ≡ fed.Ended ended) where
-        held : Holds work₁ ended fed-here
-        held = subst (FedIs fed-here (readingsOf state) (usedOf state) work₁) u h
+        held : Holds work₁ ended fed_here
+        held = subst (FedIs fed_here (readings_of state) (used_of state) work₁) u h
 
-        pub ends-ready : EndsReady state work₁ ended
-        ends-ready = record { long = y.state-long; area = held.area; few = held.few }
+        pub ends_ready : EndsReady state work₁ ended
+        ends_ready = record { long = y.state_long; area = held.area; few = held.few }
 
         -- the definition's outcome has the fields that the work area holds
-        known-states : StatesKnown (table_of table).counts.states fed-here.readings
-        known-states = states-kept table y.belongs.ok x (readingsOf state) (usedOf state) (known (table_of table).counts.states state valid-here).states
+        known_states : StatesKnown (table_of table).counts.states fed_here.readings
+        known_states = states_kept table y.belongs.ok x (readings_of state) (used_of state) (known (table_of table).counts.states state valid_here).states
 
-        pub right-ended : (r : FeedRun) (state' : List ℕ) → EndedRun (fedIn work₁ ended) state r state' → RunLine table state (feedIn table state x) r state'
-        right-ended r state' d =
-            line_as table state (feedEnded noErrors.list fed-here) (feedIn table state x) r state' (goes g) (record {
+        pub right_ended : (r : FeedRun) (state' : List ℕ) → EndedRun (fed_in work₁ ended) state r state' → RunLine table state (feed_in table state x) r state'
+        right_ended r state' d =
+            line_as table state (feed_ended no_errors.list fed_here) (feed_in table state x) r state' (goes g) (record {
               leaves =
                   record {
                     answers = numbers;
-                    readings = subst (SameState (just fed-here.readings)) (sym after) (record { rename = c.rename; same = refl; apart = c.apart });
-                    refused = λ p. absurd (not-refused ended.taken (ap (λ (m : FeedNumbers). m.answer) d.answers) p);
+                    readings = subst (SameState (just fed_here.readings)) (sym after) (record { rename = c.rename; same = refl; apart = c.apart });
+                    refused = λ p. absurd (not_refused ended.taken (ap (λ (m : FeedNumbers). m.answer) d.answers) p);
                     compact = λ p. c.compact;
                     spared = record { long = d.long; cells = c.cells; slots = subst (λ (k : ℕ). Agree state' state (18432 + 6 * k) (18528 - (18432 + 6 * k))) (sym c.count) c.slots };
-                    errors-are = d.errors-are.list-is ∙ ap (padded 32 noRecord) held.errors;
+                    errors_are = d.errors_are.list_is ∙ ap (padded 32 no_record) held.errors;
                   };
-              count-is = d.errors-are.count-is ∙ ap length held.errors;
-              few = d.errors-are.few;
+              count_is = d.errors_are.count_is ∙ ap length held.errors;
+              few = d.errors_are.few;
             })
           where
-            c : Committed fed-here.readings state state'
+            c : Committed fed_here.readings state state'
             c = subst (λ (l : List Reading). Committed l state state') held.readings d.committed
 
-            after : stateFor table state' ≡ just (map (renReading c.rename) fed-here.readings)
-            after = state-after (table_of table).counts.states fed-here.readings state state' c known-states
+            after : state_for table state' ≡ just (map (ren_reading c.rename) fed_here.readings)
+            after = state_after (table_of table).counts.states fed_here.readings state state' c known_states
 
-            numbers : feedNumbers r.answer ≡ record { answer = fed-here.answer; errors = length fed-here.errors; walked = fed-here.walked }
+            numbers : feedNumbers r.answer ≡ record { answer = fed_here.answer; errors = length fed_here.errors; walked = fed_here.walked }
             numbers =
                 let a = held.answer in let e = held.errors in let w = held.walked in
                 d.answers ∙ (λ i. record { answer = sym a i; errors = length (e i); walked = w i })
 
-            not-refused : (t : Bool) → (feedNumbers r.answer).answer ≡ (if t then 0 else 12) → (1 ≤ (feedNumbers r.answer).answer) × ((feedNumbers r.answer).answer ≤ 11) → ⊥
-            not-refused true m p = let p0 = p.0 in omega arith
-            not-refused false m p = let p1 = p.1 in omega arith
+            not_refused : (t : Bool) → (feedNumbers r.answer).answer ≡ (if t then 0 else 12) → (1 ≤ (feedNumbers r.answer).answer) × ((feedNumbers r.answer).answer ≤ 11) → ⊥
+            not_refused true m p = let p0 = p.0 in omega arith
+            not_refused false m p = let p1 = p.1 in omega arith
 
 -- By what the checks 2 and 3 have found.
-module _ (table state work : List ℕ) (line : FeedLine state work) (x : Term) (q : Found) (says : q ≡ foundOf table state) where
+module _ (table state work : List ℕ) (line : FeedLine state work) (x : Term) (q : Found) (says : q ≡ found_of table state) where
   -- what the definition goes on with
   abbrev go : Table → List Reading → FeedCall
-  go t rs = feedRight t x rs noErrors.list (usedOf state)
+  go t rs = feed_right t x rs no_errors.list (used_of state)
 
-  pub found-refused : (k : Refusal) (r : FeedRun) → q ≡ found.Refused k → r ≡ refusedRun k → RunLine table state (feedLine table state x) r state
-  unfolding feedCall
-  found-refused k r e g = rw g (line_refused table state (feedLine table state x) k (checked_refused table state q says (feedRefused (stateFor table state) noErrors.list) go k e))
+  pub found_refused : (k : Refusal) (r : FeedRun) → q ≡ found.Refused k → r ≡ refused_run k → RunLine table state (feed_line table state x) r state
+  unfolding feed_call
+  found_refused k r e g = rw g (line_refused table state (feed_line table state x) k (checked_refused table state q says (feed_refused (state_for table state) no_errors.list) go k e))
 
   module _ (view : View) (e : q ≡ found.Right view) where
-    pub right-ready : StagesReady table view state work
-    right-ready = let k = right-for table state q says view e in record { belongs = k.belongs; valid = k.valid; state-long = line.state-long; work-long = line.work-long }
+    pub right_ready : StagesReady table view state work
+    right_ready = let k = right_for table state q says view e in record { belongs = k.belongs; valid = k.valid; state_long = line.state_long; work_long = line.work_long }
 
-    pub found_right : (r : FeedRun) (state' : List ℕ) → RunLine table state (feedIn table state x) r state' → RunLine table state (feedLine table state x) r state'
-    unfolding feedCall
-    found_right r state' = line_as table state (feedIn table state x) (feedLine table state x) r state' (checked-right table state view (right-for table state q says view e) (feedRefused (stateFor table state) noErrors.list) go)
+    pub found_right : (r : FeedRun) (state' : List ℕ) → RunLine table state (feed_in table state x) r state' → RunLine table state (feed_line table state x) r state'
+    unfolding feed_call
+    found_right r state' = line_as table state (feed_in table state x) (feed_line table state x) r state' (checked_right table state view (right_for table state q says view e) (feed_refused (state_for table state) no_errors.list) go)
 
 -- Check 1, and the work area cleared at every answer but 1.
-module _ (table state work : List ℕ) (x : Term) (places : ℕ) (b : Bool) (e : b ≡ feedLengths state work places) where
-  pub feed-line : b ≡ true → FeedLine state work
-  unfolding feedLengths
-  feed-line f =
-      let both-are = both_left (lengthsRight state work) (eqb places 32) (sym e ∙ f) in
-      record { state-long = state-long state work true (sym both-are) refl; work-long = work-long state work true (sym both-are) refl }
+module _ (table state work : List ℕ) (x : Term) (places : ℕ) (b : Bool) (e : b ≡ feed_lengths state work places) where
+  pub feed_line_lem : b ≡ true → FeedLine state work
+  unfolding feed_lengths
+  feed_line_lem f =
+      let both-are = both_left (lengths_right state work) (eqb places 32) (sym e ∙ f) in
+      record { state_long = state_long state work true (sym both-are) refl; work_long = work_long state work true (sym both-are) refl }
 
   -- the definition's call, by what the check has found
-  call-is : (c : Bool) → b ≡ c → feedCall c table (stateFor table state) x noErrors.list (usedOf state) ≡ feedFor table state work x places noErrors.list
-  call-is c f = ap (λ (d : Bool). feedCall d table (stateFor table state) x noErrors.list (usedOf state)) (sym f ∙ e)
+  call_is : (c : Bool) → b ≡ c → feed_call c table (state_for table state) x no_errors.list (used_of state) ≡ feed_for table state work x places no_errors.list
+  call_is c f = ap (λ (d : Bool). feed_call d table (state_for table state) x no_errors.list (used_of state)) (sym f ∙ e)
 
-  pub run-done : (r : FeedRun) (state' work₁ work' : List ℕ) → b ≡ true → RunLine table state (feedLine table state x) r state' → length work₁ ≡ length work → work' ≡ zeros (length work₁) → RunPromise table state work x places r state' work'
-  unfolding workAfter
-  run-done r state' work₁ work' f y l₁ z =
-      record { line = line_as table state (feedLine table state x) (feedFor table state work x places noErrors.list) r state' (call-is true f) y; cleared = rw (← e, f) (z ∙ ap zeros l₁) }
+  pub run_done : (r : FeedRun) (state' work₁ work' : List ℕ) → b ≡ true → RunLine table state (feed_line table state x) r state' → length work₁ ≡ length work → work' ≡ zeros (length work₁) → RunPromise table state work x places r state' work'
+  unfolding work_after
+  run_done r state' work₁ work' f y l₁ z =
+      record { line = line_as table state (feed_line table state x) (feed_for table state work x places no_errors.list) r state' (call_is true f) y; cleared = rw (← e, f) (z ∙ ap zeros l₁) }
 
-  pub run_length : (r : FeedRun) → b ≡ false → r ≡ refusedRun WrongLength → RunPromise table state work x places r state work
-  unfolding workAfter feedCall
-  run_length r f g = rw g (record { line = line_refused table state (feedFor table state work x places noErrors.list) WrongLength (call-is false f); cleared = rw (← e, f) })
+  pub run_length : (r : FeedRun) → b ≡ false → r ≡ refused_run WrongLength → RunPromise table state work x places r state work
+  unfolding work_after feed_call
+  run_length r f g = rw g (record { line = line_refused table state (feed_for table state work x places no_errors.list) WrongLength (call_is false f); cleared = rw (← e, f) })

@@ -2,9 +2,9 @@
 use Rattle.std.specs.Prelude.{◌≡◌, Bool, true, List, ℕ, ◌≤◌, length}
 use Rattle.meaning.specs.Answers.{done, notTaken, feedNumbers}
 use Rattle.meaning.specs.Basics.{if◌then◌else◌}
-use Rattle.meaning.specs.Bounds.{maxWalkedByFeed}
-use Rattle.meaning.specs.Calls.{FeedCall, feedRight, feedCall}
-use Rattle.meaning.specs.Limits.{maxErrors}
+use Rattle.meaning.specs.Bounds.{max_walked_by_feed}
+use Rattle.meaning.specs.Calls.{FeedCall, feed_right, feed_call}
+use Rattle.meaning.specs.Limits.{max_errors}
 use Rattle.meaning.specs.Outcome.{Fed}
 use Rattle.meaning.specs.TableFile.{table_of}
 use Rattle.meaning.specs.declared.FeedAnswer.TheVariants.{Done, NotTaken, Refused}
@@ -12,68 +12,68 @@ use Rattle.meaning.specs.declared.Refusal.{Refusal}
 use Rattle.meaning.specs.declared.Term.{Term}
 use Rattle.meaning.specs.declared.View.{View}
 use Rattle.table.specs.Answers.{Belongs}
-use Rattle.lists.specs.Filling.{noRecord, ByValue}
+use Rattle.lists.specs.Filling.{no_record, ByValue}
 use Rattle.lists.specs.declared.errors.Errors.{Errors}
-use Rattle.state.specs.Check.{validState}
-use Rattle.state.specs.Layout.{stateLength, workLength}
-use Rattle.state.specs.Readings.{usedOf, readingsOf, resultsOf}
-use Rattle.actions.specs.Errors.{errorsOf}
+use Rattle.state.specs.Check.{valid_state}
+use Rattle.state.specs.Layout.{state_len, work_len}
+use Rattle.state.specs.Readings.{used_of, readings_of, results_of}
+use Rattle.actions.specs.Errors.{errors_of}
 use Rattle.actions.specs.Telling.{Area}
 use Rattle.commit.specs.Committing.{Committed}
 use Rattle.feeding.specs.declared.Ended.{Ended}
-use Rattle.gathering.specs.Gathering.{noErrors}
-use Rattle.promises.specs.Buffers.{feedLengths, stateFor, workAfter}
-use Rattle.promises.specs.Calls.{FeedLeaves, feedFor}
+use Rattle.gathering.specs.Gathering.{no_errors}
+use Rattle.promises.specs.Buffers.{feed_lengths, state_for, work_after}
+use Rattle.promises.specs.Calls.{FeedLeaves, feed_for}
 use Rattle.by_value.specs.declared.running.FeedRun.{FeedRun}
 
-abbrev pub refusedRun : Refusal → FeedRun
-refusedRun k = record { answer = Refused k; errors = noErrors }
+abbrev pub refused_run : Refusal → FeedRun
+refused_run k = record { answer = Refused k; errors = no_errors }
 
 unfoldable pub run_of : (taken : Bool) → (walked : ℕ) → Errors → FeedRun
 run_of taken walked errors = record { answer = if taken then Done errors.count walked else NotTaken errors.count walked; errors = errors }
 
 -- buffers of the right lengths
 pub record FeedLine (state work : List ℕ) : Type 0 where
-  pub state-long : length state ≡ stateLength
-  pub work-long : length work ≡ workLength
+  pub state_long : length state ≡ state_len
+  pub work_long : length work ≡ work_len
 
 -- with a table and a state that were found right
 pub record StagesReady (table : List ℕ) (view : View) (state work : List ℕ) : Type 0 where
   pub belongs : Belongs table view
-  pub valid : validState view.counts.states state ≡ true
-  pub state-long : length state ≡ stateLength
-  pub work-long : length work ≡ workLength
+  pub valid : valid_state view.counts.states state ≡ true
+  pub state_long : length state ≡ state_len
+  pub work_long : length work ≡ work_len
 
 -- A feed that ended, as the work area holds it.
-abbrev pub fedIn : List ℕ → Ended → Fed
-fedIn w e = record { answer = if e.taken then done else notTaken; readings = resultsOf w e.list e.counts.results; errors = errorsOf w e.counts.errors; walked = e.walked; next = e.counts.cells }
+abbrev pub fed_in : List ℕ → Ended → Fed
+fed_in w e = record { answer = if e.taken then done else notTaken; readings = results_of w e.list e.counts.results; errors = errors_of w e.counts.errors; walked = e.walked; next = e.counts.cells }
 
 pub record EndsReady (state work : List ℕ) (e : Ended) : Type 0 where
-  pub long : length state ≡ stateLength
+  pub long : length state ≡ state_len
   pub area : Area e.list work e.counts
-  pub few : e.walked ≤ maxWalkedByFeed
+  pub few : e.walked ≤ max_walked_by_feed
 
 -- Its numbers, its readings committed, its errors by value.
 pub record EndedRun (f : Fed) (state : List ℕ) (r : FeedRun) (state' : List ℕ) : Type 0 where
   pub answers : feedNumbers r.answer ≡ record { answer = f.answer; errors = length f.errors; walked = f.walked }
   pub committed : Committed f.readings state state'
-  pub errors-are : ByValue maxErrors noRecord f.errors r.errors.list r.errors.count
+  pub errors_are : ByValue max_errors no_record f.errors r.errors.list r.errors.count
   pub long : length state' ≡ length state
 
 -- feed of a list without records, on a table and a state that were found right, and on buffers of the right lengths
-abbrev pub feedIn : (table state : List ℕ) → Term → FeedCall
-feedIn table state x = feedRight (table_of table) x (readingsOf state) noErrors.list (usedOf state)
+abbrev pub feed_in : (table state : List ℕ) → Term → FeedCall
+feed_in table state x = feed_right (table_of table) x (readings_of state) no_errors.list (used_of state)
 
-abbrev pub feedLine : (table state : List ℕ) → Term → FeedCall
-feedLine table state x = feedCall true table (stateFor table state) x noErrors.list (usedOf state)
+abbrev pub feed_line : (table state : List ℕ) → Term → FeedCall
+feed_line table state x = feed_call true table (state_for table state) x no_errors.list (used_of state)
 
 -- What a call answers and leaves: the array by value is the list that the definition leaves, with its count beside it.
 pub record RunLine (table state : List ℕ) (call : FeedCall) (r : FeedRun) (state' : List ℕ) : Type 0 where
   pub leaves : FeedLeaves table state call r.answer state' r.errors.list
-  pub count-is : r.errors.count ≡ call.says.errors
-  pub few : r.errors.count ≤ maxErrors
+  pub count_is : r.errors.count ≡ call.says.errors
+  pub few : r.errors.count ≤ max_errors
 
 -- for a lent list of so many places
 pub record RunPromise (table state work : List ℕ) (x : Term) (places : ℕ) (r : FeedRun) (state' work' : List ℕ) : Type 0 where
-  pub line : RunLine table state (feedFor table state work x places noErrors.list) r state'
-  pub cleared : work' ≡ workAfter (feedLengths state work places) work
+  pub line : RunLine table state (feed_for table state work x places no_errors.list) r state'
+  pub cleared : work' ≡ work_after (feed_lengths state work places) work

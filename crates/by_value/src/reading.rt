@@ -1,16 +1,16 @@
 // The call by value under `Machine::stack`, for programs and exports: a stack is read out, top first, into a list by value.
 ghost use Rattle.std.specs.Prelude.{◌≡◌, true, map, ◌+◌, ◌≤◌, length};
 ghost use Rattle.std.proofs.lemmas.List.Edits.{sets};
-ghost use Rattle.meaning.specs.Calls.{stackRight};
-ghost use Rattle.meaning.specs.Limits.{maxHeight};
+ghost use Rattle.meaning.specs.Calls.{stack_right};
+ghost use Rattle.meaning.specs.Limits.{max_height};
 ghost use Rattle.meaning.specs.Readings.{seen};
 ghost use Rattle.cells.specs.Pool.{cell_at};
-ghost use Rattle.cells.specs.Stacks.{entriesOf, StackIn};
-ghost use Rattle.state.specs.Layout.{stateLength};
-ghost use Rattle.state.specs.Readings.{readingsOf};
-ghost use Rattle.promises.specs.Buffers.{listsRight};
-ghost use Rattle.promises.specs.Calls.{stackOn};
-ghost use Rattle.by_value.specs.Reading.{cells_of, ReadReady, EntriesRead, refusedRead, RightState, ReadPromise};
+ghost use Rattle.cells.specs.Stacks.{entries_of, StackIn};
+ghost use Rattle.state.specs.Layout.{state_len};
+ghost use Rattle.state.specs.Readings.{readings_of};
+ghost use Rattle.promises.specs.Buffers.{lists_right};
+ghost use Rattle.promises.specs.Calls.{stack_on};
+ghost use Rattle.by_value.specs.Reading.{cells_of, ReadReady, EntriesRead, refused_read, RightState, ReadPromise};
 
 use checks::{Found, find};
 use lists::Entries;
@@ -24,7 +24,7 @@ pub struct StackRead {
 }
 
 fn lists_right(state: &[u8], places: usize) -> bool
-    ensures { result ≡ listsRight state.now places }
+    ensures { result ≡ lists_right state.now places }
 {
     if state::state_length_right(state) {
         return places == HEIGHTS;
@@ -33,7 +33,7 @@ fn lists_right(state: &[u8], places: usize) -> bool
 }
 
 fn refused(refusal: Refusal) -> StackRead
-    ensures { result ≡ refusedRead refusal }
+    ensures { result ≡ refused_read refusal }
 {
     let none = Entry {
         state: StateNo(0),
@@ -57,7 +57,7 @@ fn numbers_from(
     at: usize,
     old: [u16; HEIGHTS],
 ) -> [u16; HEIGHTS]
-    requires { (at + height ≤ maxHeight) × StackIn state.now height top.0 }
+    requires { (at + height ≤ max_height) × StackIn state.now height top.0 }
     ensures { result ≡ sets old at (cells_of (cell_at state.now) height top.0) }
 {
     if height == 0 {
@@ -72,7 +72,7 @@ fn numbers_from(
 // The entries of a stack, top first. The recursion down the stack gives numbers only, since a list of entries is too large to come back through each of its calls.
 fn entries_of(state: &[u8], height: u16, top: CellNo) -> Entries
     requires { ReadReady state.now height top.0 }
-    ensures { EntriesRead (map seen (entriesOf (cell_at state.now) height top.0)) result }
+    ensures { EntriesRead (map seen (entries_of (cell_at state.now) height top.0)) result }
 {
     let numbers = numbers_from(state, height, top, 0, [0; HEIGHTS]);
     let none = Entry {
@@ -93,7 +93,7 @@ fn entries_of(state: &[u8], height: u16, top: CellNo) -> Entries
 // The stack of a reading, of a state that was found right.
 fn stack_right(state: &[u8], number: u16) -> StackRead
     requires { RightState state.now }
-    ensures { ReadPromise (stackRight (readingsOf state.now) number) result }
+    ensures { ReadPromise (stack_right (readings_of state.now) number) result }
 {
     let count = state::reading_count(state);
     if count == 0 {
@@ -116,8 +116,8 @@ fn stack_right(state: &[u8], number: u16) -> StackRead
 
 // On a state buffer of the right length.
 fn stack_found(table: &[u8], state: &[u8], number: u16) -> StackRead
-    requires { length state.now ≡ stateLength }
-    ensures { ReadPromise (stackOn true table.now state.now number) result }
+    requires { length state.now ≡ state_len }
+    ensures { ReadPromise (stack_on true table.now state.now number) result }
 {
     match find(table, state) {
         Found::Refused(refusal) => refused(refusal),
@@ -127,7 +127,7 @@ fn stack_found(table: &[u8], state: &[u8], number: u16) -> StackRead
 
 // Reads the stack of a reading out, for a lent list of so many places.
 pub fn stack_of(table: &[u8], state: &[u8], number: u16, places: usize) -> StackRead
-    ensures { ReadPromise (stackOn (listsRight state.now places) table.now state.now number) result }
+    ensures { ReadPromise (stack_on (lists_right state.now places) table.now state.now number) result }
 {
     if lists_right(state, places) {
         return stack_found(table, state, number);

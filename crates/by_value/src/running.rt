@@ -1,12 +1,12 @@
 // The call by value under `Machine::feed`, for programs and exports: a term is fed, and the error records come back by value.
 ghost use Rattle.std.specs.Prelude.{◌≡◌, ◌≤◌};
-ghost use Rattle.meaning.specs.Bounds.{maxWalkedByFeed};
-ghost use Rattle.meaning.specs.Calls.{wrongTerm};
+ghost use Rattle.meaning.specs.Bounds.{max_walked_by_feed};
+ghost use Rattle.meaning.specs.Calls.{wrong_term};
 ghost use Rattle.meaning.specs.Feeding.{feed};
 ghost use Rattle.meaning.specs.TableFile.{table_of};
-ghost use Rattle.state.specs.Readings.{usedOf, readingsOf};
+ghost use Rattle.state.specs.Readings.{used_of, readings_of};
 ghost use Rattle.feeding.specs.Ending.{FedIs};
-ghost use Rattle.by_value.specs.Feeding.{FeedLine, StagesReady, EndsReady, EndedRun, RunLine, RunPromise, refusedRun, run_of, fedIn, feedIn, feedLine};
+ghost use Rattle.by_value.specs.Feeding.{FeedLine, StagesReady, EndsReady, EndedRun, RunLine, RunPromise, refused_run, run_of, fed_in, feed_in, feed_line};
 
 use checks::{Found, feed_lengths_right, find};
 use feeding::{Ended, Fed, First};
@@ -21,7 +21,7 @@ pub struct FeedRun {
 }
 
 fn refused(refusal: Refusal) -> FeedRun
-    ensures { result ≡ refusedRun refusal }
+    ensures { result ≡ refused_run refusal }
 {
     let errors = gathering::no_errors();
     FeedRun {
@@ -32,7 +32,7 @@ fn refused(refusal: Refusal) -> FeedRun
 
 // 0 where a reading took the term, else 12.
 fn answered(taken: bool, walked: usize, errors: Errors) -> FeedRun
-    requires { walked ≤ maxWalkedByFeed }
+    requires { walked ≤ max_walked_by_feed }
     ensures { result ≡ run_of taken walked errors }
 {
     let count = errors.count;
@@ -57,7 +57,7 @@ fn answered(taken: bool, walked: usize, errors: Errors) -> FeedRun
 
 // Check 5: class below 3 or not in the table, or start > end.
 fn wrong_term(view: View, term: Term) -> bool
-    ensures { result ≡ wrongTerm view.counts.classes term }
+    ensures { result ≡ wrong_term view.counts.classes term }
 {
     if term.class < FIRST_TERM {
         return true;
@@ -71,7 +71,7 @@ fn wrong_term(view: View, term: Term) -> bool
 // The stages, over the cells in use.
 fn stages(table: &[u8], view: View, state: &[u8], work: &mut [u8], term: Term) -> Fed
     requires { StagesReady table.now view state.now work.old }
-    ensures { FedIs (feed (table_of table.now) term (readingsOf state.now) (usedOf state.now)) (readingsOf state.now) (usedOf state.now) work.new result }
+    ensures { FedIs (feed (table_of table.now) term (readings_of state.now) (used_of state.now)) (readings_of state.now) (used_of state.now) work.new result }
 {
     state::load(state, &mut *work);
     let first = feeding::first_planning(table, view, state, &mut *work, term);
@@ -87,7 +87,7 @@ fn stages(table: &[u8], view: View, state: &[u8], work: &mut [u8], term: Term) -
 // A feed that ended is committed; its errors are gathered once.
 fn end_feed(state: &mut [u8], work: &mut [u8], ended: Ended) -> FeedRun
     requires { EndsReady state.old work.old ended }
-    ensures { EndedRun (fedIn work.old ended) state.old result state.new }
+    ensures { EndedRun (fed_in work.old ended) state.old result state.new }
 {
     let counts = ended.counts;
     let errors = gathering::errors_of(work, counts.errors);
@@ -104,7 +104,7 @@ fn end_feed(state: &mut [u8], work: &mut [u8], ended: Ended) -> FeedRun
 // On a table and a state that were found right. Consumed comes before the term is looked at.
 fn feed_right(table: &[u8], view: View, state: &mut [u8], work: &mut [u8], term: Term) -> FeedRun
     requires { StagesReady table.now view state.old work.old }
-    ensures { RunLine table.now state.old (feedIn table.now state.old term) result state.new }
+    ensures { RunLine table.now state.old (feed_in table.now state.old term) result state.new }
 {
     if state::reading_count(state) == 0 {
         return refused(Refusal::Consumed);
@@ -122,7 +122,7 @@ fn feed_right(table: &[u8], view: View, state: &mut [u8], work: &mut [u8], term:
 // On buffers of the right lengths.
 fn feed_found(table: &[u8], state: &mut [u8], work: &mut [u8], term: Term) -> FeedRun
     requires { FeedLine state.old work.old }
-    ensures { RunLine table.now state.old (feedLine table.now state.old term) result state.new }
+    ensures { RunLine table.now state.old (feed_line table.now state.old term) result state.new }
 {
     let found = find(table, state);
     match found {

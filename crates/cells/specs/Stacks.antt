@@ -2,7 +2,7 @@
 use Rattle.std.specs.Prelude.{◌≡◌, Bool, true, List, [], ◌∷◌, ℕ, zero, suc, ◌*◌, ◌<◌, ◌≤◌, ltb, eqb, length}
 use Rattle.meaning.specs.Basics.{both, AllOf}
 use Rattle.meaning.specs.Readings.{Entry}
-use Rattle.cells.specs.Pool.{cellSize, cell_at}
+use Rattle.cells.specs.Pool.{cell_size, cell_at}
 use Rattle.cells.specs.declared.Cell.{Cell}
 
 abbrev pub Pool : Type 0
@@ -16,14 +16,14 @@ abbrev pub entry_at : Pool → (c : ℕ) → Entry
 entry_at p c = entry_of c (p c)
 
 -- The entries of a stack, top first.
-unfoldable pub entriesOf : Pool → (height top : ℕ) → List Entry
-entriesOf p zero c = []
-entriesOf p (suc h) c = entry_at p c ∷ entriesOf p h (p c).parent.0
+unfoldable pub entries_of : Pool → (height top : ℕ) → List Entry
+entries_of p zero c = []
+entries_of p (suc h) c = entry_at p c ∷ entries_of p h (p c).parent.0
 
 -- The cell k below c.
-unfoldable pub downFrom : Pool → (k c : ℕ) → ℕ
-downFrom p zero c = c
-downFrom p (suc k) c = downFrom p k (p c).parent.0
+unfoldable pub down_from : Pool → (k c : ℕ) → ℕ
+down_from p zero c = c
+down_from p (suc k) c = down_from p k (p c).parent.0
 
 -- The layout's rule for a stack, as a test: along the parents the heights are h, h - 1, .., 1, each cell's number is below `cells`, each state's below `states`.
 unfoldable pub linked : (cells states : ℕ) → Pool → (height top : ℕ) → Bool
@@ -42,7 +42,7 @@ StatesBelow m = AllOf (λ (e : Entry). e.state < m)
 -- A stack in a buffer: its cells lie in the bytes.
 pub record StackIn (s : List ℕ) (height top : ℕ) : Type 0 where
   pub cells : ℕ
-  pub room : cellSize * cells ≤ length s
+  pub room : cell_size * cells ≤ length s
   pub stack : Linked cells (cell_at s) height top
 
 -- A birth: the cell x stands at the number n, and all cells of lower numbers are as before.

@@ -1,10 +1,10 @@
 // One-entry cells in a lent pool, and stacks of them: a stack is read by recursion on its falling height, through parent cells.
 ghost use Rattle.std.specs.Prelude.{◌≡◌, reverse, ◌+◌, ◌*◌, ◌<◌, ◌≤◌, length};
 ghost use Rattle.meaning.specs.Calls.{written};
-ghost use Rattle.meaning.specs.Limits.{maxHeight};
+ghost use Rattle.meaning.specs.Limits.{max_height};
 ghost use Rattle.meaning.specs.Readings.{holds, seen, states};
-ghost use Rattle.cells.specs.Pool.{cellSize, cell_at, putCell};
-ghost use Rattle.cells.specs.Stacks.{entry_at, entriesOf, downFrom, linked, StackIn};
+ghost use Rattle.cells.specs.Pool.{cell_size, cell_at, put_cell};
+ghost use Rattle.cells.specs.Stacks.{entry_at, entries_of, down_from, linked, StackIn};
 
 use meaning::{CellNo, Entry, HEIGHTS, StateNo};
 
@@ -24,7 +24,7 @@ pub struct Cell {
 
 // The cell c.
 pub fn get_cell(pool: &[u8], c: CellNo) -> Cell
-    requires { cellSize * c.0 + cellSize ≤ length pool.now }
+    requires { cell_size * c.0 + cell_size ≤ length pool.now }
     ensures { result ≡ cell_at pool.now c.0 }
 {
     let at = CELL_SIZE * (c.0 as usize);
@@ -40,8 +40,8 @@ pub fn get_cell(pool: &[u8], c: CellNo) -> Cell
 
 // Writes the cell c, and no other byte.
 pub fn put_cell(pool: &mut [u8], c: CellNo, x: Cell)
-    requires { cellSize * c.0 + cellSize ≤ length pool.old }
-    ensures { pool.new ≡ putCell pool.old c.0 x }
+    requires { cell_size * c.0 + cell_size ≤ length pool.old }
+    ensures { pool.new ≡ put_cell pool.old c.0 x }
 {
     let at = CELL_SIZE * (c.0 as usize);
     numbers::put16(&mut *pool, at, x.parent.0);
@@ -54,8 +54,8 @@ pub fn put_cell(pool: &mut [u8], c: CellNo, x: Cell)
 
 // A cell is born: the number n, which no stack has yet, is its own.
 pub fn birth(pool: &mut [u8], n: u16, x: Cell) -> CellNo
-    requires { cellSize * n + cellSize ≤ length pool.old }
-    ensures { (result.0 ≡ n) × (pool.new ≡ putCell pool.old n x) }
+    requires { cell_size * n + cell_size ≤ length pool.old }
+    ensures { (result.0 ≡ n) × (pool.new ≡ put_cell pool.old n x) }
 {
     put_cell(&mut *pool, CellNo(n), x);
     CellNo(n)
@@ -63,7 +63,7 @@ pub fn birth(pool: &mut [u8], n: u16, x: Cell) -> CellNo
 
 // What is seen of the entry in the cell c.
 pub fn entry_at(pool: &[u8], c: CellNo) -> Entry
-    requires { cellSize * c.0 + cellSize ≤ length pool.now }
+    requires { cell_size * c.0 + cell_size ≤ length pool.now }
     ensures { result ≡ seen (entry_at (cell_at pool.now) c.0) }
 {
     let x = get_cell(pool, c);
@@ -78,7 +78,7 @@ pub fn entry_at(pool: &[u8], c: CellNo) -> Entry
 
 // Whether the bytes have a stack of this height at this top: cells below `cells`, states below `states`.
 pub fn linked_from(pool: &[u8], cells: u16, states: u16, height: u16, top: CellNo) -> bool
-    requires { cellSize * cells ≤ length pool.now }
+    requires { cell_size * cells ≤ length pool.now }
     ensures { result ≡ linked cells states (cell_at pool.now) height top.0 }
 {
     if height == 0 {
@@ -100,7 +100,7 @@ pub fn linked_from(pool: &[u8], cells: u16, states: u16, height: u16, top: CellN
 // The cell k below the top: what is the top after k pops.
 pub fn down(pool: &[u8], height: u16, top: CellNo, k: u16) -> CellNo
     requires { (k < height) × StackIn pool.now height top.0 }
-    ensures { result.0 ≡ downFrom (cell_at pool.now) k top.0 }
+    ensures { result.0 ≡ down_from (cell_at pool.now) k top.0 }
 {
     if k == 0 {
         return top;
@@ -112,7 +112,7 @@ pub fn down(pool: &[u8], height: u16, top: CellNo, k: u16) -> CellNo
 // Whether a stack holds the cell c.
 pub fn holds_cell(pool: &[u8], height: u16, top: CellNo, c: CellNo) -> bool
     requires { StackIn pool.now height top.0 }
-    ensures { result ≡ holds (entriesOf (cell_at pool.now) height top.0) c.0 }
+    ensures { result ≡ holds (entries_of (cell_at pool.now) height top.0) c.0 }
 {
     if height == 0 {
         return false;
@@ -126,8 +126,8 @@ pub fn holds_cell(pool: &[u8], height: u16, top: CellNo, c: CellNo) -> bool
 
 // The states of a stack, the lowest first; the places above the height are kept.
 pub fn states_into(pool: &[u8], height: u16, top: CellNo, old: [u16; HEIGHTS]) -> [u16; HEIGHTS]
-    requires { (height ≤ maxHeight) × StackIn pool.now height top.0 }
-    ensures { result ≡ written (reverse (states (entriesOf (cell_at pool.now) height top.0))) old }
+    requires { (height ≤ max_height) × StackIn pool.now height top.0 }
+    ensures { result ≡ written (reverse (states (entries_of (cell_at pool.now) height top.0))) old }
 {
     if height == 0 {
         return old;

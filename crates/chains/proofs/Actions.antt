@@ -7,42 +7,42 @@ use mathlib.Core.List.{List, [], ◌∷◌}
 use lib.ListN.{length, get_or, take, length-take, drop_of_length-le}
 use lib.Seq.{get_or-take, drop-cons}
 use Rattle.meaning.specs.Basics.{if◌then◌else◌, Maybe, nothing, just}
-use Rattle.meaning.specs.TableFile.{ActionRecord, target, table_of, actionOf}
+use Rattle.meaning.specs.TableFile.{ActionRecord, target, table_of, action_of}
 use Rattle.meaning.specs.TableRight.{shifts}
 use Rattle.meaning.specs.declared.View.{View}
 use Rattle.table.specs.Answers.{Belongs, actionAnswer}
 use Rattle.table.specs.declared.Action.{Action}
-use Rattle.table.proofs.Bounds.{answer-rules, action-found-within}
-use Rattle.chains.specs.Actions.{shift_of, rulesFrom}
+use Rattle.table.proofs.Bounds.{answer_rules, action_found_within}
+use Rattle.chains.specs.Actions.{shift_of, rules_from}
 
 -- The rules of an action.
-pub no-rules : (a : Action) (i : ℕ) → a.count ≤ i → rulesFrom a i ≡ []
-unfolding rulesFrom
-no-rules a i le = drop_of_length-le (take a.count a.rules) {i = i} (simp length-take (omega arith))
+pub no_rules : (a : Action) (i : ℕ) → a.count ≤ i → rules_from a i ≡ []
+unfolding rules_from
+no_rules a i le = drop_of_length-le (take a.count a.rules) {i = i} (simp length-take (omega arith))
 
-pub more-rules : (a : Action) (i : ℕ) → i < a.count → a.count ≤ length a.rules → rulesFrom a i ≡ get_or a.rules i 0 ∷ rulesFrom a (i + 1)
-unfolding rulesFrom
-more-rules a i lt le =
+pub more_rules : (a : Action) (i : ℕ) → i < a.count → a.count ≤ length a.rules → rules_from a i ≡ get_or a.rules i 0 ∷ rules_from a (i + 1)
+unfolding rules_from
+more_rules a i lt le =
     let l : i < length (take a.count a.rules) = simp length-take (omega arith) in
     drop-cons (take a.count a.rules) i 0 l
     ∙ rw (get_or-take a.count a.rules i 0 lt, add-one i)
 
 -- What a lookup in a checked table gives.
-record-shift : (r : ActionRecord) → shift_of (actionAnswer r) ≡ r.shift
+record_shift : (r : ActionRecord) → shift_of (actionAnswer r) ≡ r.shift
 unfolding actionAnswer
-record-shift r = at r.shift
+record_shift r = at r.shift
   where
     at : (sh : Maybe ℕ) → (if shifts sh then just (target sh) else nothing) ≡ sh
     at nothing = refl
     at (just to) = refl
 
-module _ (s : List ℕ) (view : View) (belongs : Belongs s view) (state class : ℕ) (a : Action) (is : a ≡ actionAnswer (actionOf (table_of s) state class)) where
-  pub found-shift : shift_of a ≡ (actionOf (table_of s) state class).shift
-  found-shift = ap shift_of is ∙ record-shift (actionOf (table_of s) state class)
+module _ (s : List ℕ) (view : View) (belongs : Belongs s view) (state class : ℕ) (a : Action) (is : a ≡ actionAnswer (action_of (table_of s) state class)) where
+  pub found_shift : shift_of a ≡ (action_of (table_of s) state class).shift
+  found_shift = ap shift_of is ∙ record_shift (action_of (table_of s) state class)
 
-  pub found-rules : rulesFrom a 0 ≡ (actionOf (table_of s) state class).rules
-  unfolding rulesFrom
-  found-rules = answer-rules s view belongs state class a is
+  pub found_rules : rules_from a 0 ≡ (action_of (table_of s) state class).rules
+  unfolding rules_from
+  found_rules = answer_rules s view belongs state class a is
 
-  pub four-rules : a.count ≤ 4
-  four-rules = subst (λ (x : Action). x.count ≤ 4) (sym is) (action-found-within s view belongs state class).count
+  pub four_rules : a.count ≤ 4
+  four_rules = subst (λ (x : Action). x.count ≤ 4) (sym is) (action_found_within s view belongs state class).count

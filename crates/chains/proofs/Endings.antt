@@ -7,36 +7,36 @@ use mathlib.Core.List.{List}
 use lib.Dec.{leb, ltb, leb-suc-suc}
 use borrow.Author.Tests.{lt-ltb, le-ltb}
 use Rattle.meaning.specs.Basics.{if◌then◌else◌, Maybe, nothing, just}
-use Rattle.meaning.specs.Walk.{Walked, refused, walked, shift, endChain}
+use Rattle.meaning.specs.Walk.{Walked, refused, walked, shift, end_chain}
 use Rattle.meaning.specs.declared.Refusal.TheVariants.{TooManyReadings}
 use Rattle.table.specs.declared.Action.{Action}
-use Rattle.chains.specs.Actions.{tooHigh}
+use Rattle.chains.specs.Actions.{too_high}
 use Rattle.chains.specs.Marks.{Marked, MarksHold}
-use Rattle.chains.specs.Planning.{plan_of, endsAs}
+use Rattle.chains.specs.Planning.{plan_of, ends_as}
 use Rattle.chains.specs.declared.Planned.TheVariants as planned
 use Rattle.chains.specs.declared.reducing.Progress.{Progress}
 
-pub too-high : (a : Action) (h : ℕ) → a.shifts ≡ true → leb 64 h ≡ tooHigh a h
-too-high a h e = rw (e, add-one h) (sym (leb-suc-suc 64 h))
+pub too_high_lem : (a : Action) (h : ℕ) → a.shifts ≡ true → leb 64 h ≡ too_high a h
+too_high_lem a h e = rw (e, add-one h) (sym (leb-suc-suc 64 h))
 
 module _ (a : Action) (room : ℕ) (at : Progress) where
-  pub ends-chain : a.shifts ≡ true → at.chains < room → planned.Walked at.walked (at.chains + 1) ≡ plan_of (endsAs a room at)
-  unfolding endChain
-  ends-chain e lt = rw (e, lt-ltb at.chains room lt)
+  pub ends_chain : a.shifts ≡ true → at.chains < room → planned.Walked at.walked (at.chains + 1) ≡ plan_of (ends_as a room at)
+  unfolding end_chain
+  ends_chain e lt = rw (e, lt-ltb at.chains room lt)
 
-  pub ends-full : a.shifts ≡ true → room ≤ at.chains → planned.Refused TooManyReadings ≡ plan_of (endsAs a room at)
-  unfolding endChain
-  ends-full e le = rw (e, le-ltb at.chains room le)
+  pub ends_full : a.shifts ≡ true → room ≤ at.chains → planned.Refused TooManyReadings ≡ plan_of (ends_as a room at)
+  unfolding end_chain
+  ends_full e le = rw (e, le-ltb at.chains room le)
 
-  pub ends-none : a.shifts ≡ false → planned.Walked at.walked at.chains ≡ plan_of (endsAs a room at)
-  unfolding endChain
-  ends-none e = rw e
+  pub ends_none : a.shifts ≡ false → planned.Walked at.walked at.chains ≡ plan_of (ends_as a room at)
+  unfolding end_chain
+  ends_none e = rw e
 
 -- the end of a rule list has no mark
-pub end-holds : (m : List ℕ) (k room : ℕ) (sh : Maybe ℕ) (n c : ℕ) → MarksHold m k (endChain room sh n c)
-unfolding endChain Marked
-end-holds m k room nothing n c = tt
-end-holds m k room (just to) n c = at (ltb c room)
+pub end_holds : (m : List ℕ) (k room : ℕ) (sh : Maybe ℕ) (n c : ℕ) → MarksHold m k (end_chain room sh n c)
+unfolding end_chain Marked
+end_holds m k room nothing n c = tt
+end_holds m k room (just to) n c = at (ltb c room)
   where
     at : (b : Bool) → MarksHold m k (if b then walked (shift (just to)) n (c + 1) else refused TooManyReadings)
     at true = tt

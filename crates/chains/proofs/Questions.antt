@@ -11,75 +11,75 @@ use borrow.Author.Tests.{lt-ltb, le-ltb}
 use Rattle.meaning.specs.Basics.{if◌then◌else◌}
 use Rattle.meaning.specs.TableFile.{Table}
 use Rattle.meaning.specs.Walk.{Walked, plan, chains}
-use Rattle.meaning.specs.Questions.{enoughRoom, planned, canPlan, or_else, recoversFrom}
+use Rattle.meaning.specs.Questions.{enough_room, planned, can_plan, or_else, recovers_from}
 use Rattle.meaning.specs.declared.Refusal.{Refusal}
 use Rattle.meaning.specs.declared.QuestionAnswer.{QuestionAnswer}
 use Rattle.meaning.specs.declared.QuestionAnswer.TheVariants.{Yes, No, Refused}
 use Rattle.meaning.proofs.Trees.{walk_is}
 use Rattle.chains.specs.Simulated.{stack_of}
-use Rattle.chains.specs.Planning.{plan_of, marksLength}
+use Rattle.chains.specs.Planning.{plan_of, marks_length}
 use Rattle.chains.specs.declared.Planned.{Planned}
 use Rattle.chains.specs.declared.Planned.TheVariants as planning
-use Rattle.chains.proofs.Following.{ends-chains}
-use Rattle.chains.proofs.Walking.{plan-refused, plan-walked}
+use Rattle.chains.proofs.Following.{ends_chains}
+use Rattle.chains.proofs.Walking.{plan_refused, plan_walked}
 
 -- One stack.
-module _ (t : Table) (class : ℕ) (st : List ℕ) (r : Planned) (says : r ≡ plan_of (plan t enoughRoom class st 0)) where
-  pub can-refused : (k : Refusal) → r ≡ planning.Refused k → Refused k ≡ canPlan t class st
-  unfolding canPlan
-  can-refused k e = sym (ap planned (plan-refused (plan t enoughRoom class st 0) k (sym e ∙ says)))
+module _ (t : Table) (class : ℕ) (st : List ℕ) (r : Planned) (says : r ≡ plan_of (plan t enough_room class st 0)) where
+  pub can_refused : (k : Refusal) → r ≡ planning.Refused k → Refused k ≡ can_plan t class st
+  unfolding can_plan
+  can_refused k e = sym (ap planned (plan_refused (plan t enough_room class st 0) k (sym e ∙ says)))
 
   module _ (n c : ℕ) (e : r ≡ planning.Walked n c) where
-    by-chains : canPlan t class st ≡ (if ltb 0 c then Yes else No)
-    unfolding canPlan plan
-    by-chains =
-        let f = plan-walked (plan t enoughRoom class st 0) n c (sym e ∙ says) in
-        let i = walk_is 32 t enoughRoom class st 0 0 f.walk n c f.is in
+    by_chains : can_plan t class st ≡ (if ltb 0 c then Yes else No)
+    unfolding can_plan plan
+    by_chains =
+        let f = plan_walked (plan t enough_room class st 0) n c (sym e ∙ says) in
+        let i = walk_is 32 t enough_room class st 0 0 f.walk n c f.is in
         let s = ap chains i.tree_is in
-        let g = i.chains-is in
+        let g = i.chains_is in
         let h : chains f.walk ≡ c = omega arith in
-        ap planned f.is ∙ ap (λ (b : Bool). (if b then Yes else No)) (ends-chains f.walk ∙ ap (ltb 0) h)
+        ap planned f.is ∙ ap (λ (b : Bool). (if b then Yes else No)) (ends_chains f.walk ∙ ap (ltb 0) h)
 
-    pub can-yes : 0 < c → Yes ≡ canPlan t class st
-    can-yes lt = sym (by-chains ∙ rw (lt-ltb 0 c lt))
+    pub can_yes : 0 < c → Yes ≡ can_plan t class st
+    can_yes lt = sym (by_chains ∙ rw (lt-ltb 0 c lt))
 
-    pub can-no : c ≤ 0 → No ≡ canPlan t class st
-    can-no le = sym (by-chains ∙ rw (le-ltb 0 c le))
+    pub can_no : c ≤ 0 → No ≡ can_plan t class st
+    can_no le = sym (by_chains ∙ rw (le-ltb 0 c le))
 
 -- What is left of the heights decides.
 pub record Recovering (t : Table) (a : List ℕ) (height left : ℕ) (marks : List ℕ) : Type 0 where
   pub lower : left ≤ height
-  pub same : recoversFrom t (stack_of a left) ≡ recoversFrom t (stack_of a height)
-  pub long : length marks ≡ marksLength
+  pub same : recovers_from t (stack_of a left) ≡ recovers_from t (stack_of a height)
+  pub long : length marks ≡ marks_length
 
 -- The heights of a stack, from the one where it stands down.
 module _ (t : Table) (a : List ℕ) where
-  none_left : (left : ℕ) → left ≤ 0 → No ≡ recoversFrom t (stack_of a left)
-  unfolding recoversFrom stack_of
+  none_left : (left : ℕ) → left ≤ 0 → No ≡ recovers_from t (stack_of a left)
+  unfolding recovers_from stack_of
   none_left zero h = refl
   none_left (suc left) h = absurd (omega arith)
 
-  pub recovers-none : (height left : ℕ) (m : List ℕ) → Recovering t a height left m → left ≤ 0 → No ≡ recoversFrom t (stack_of a height)
-  recovers-none height left m so_far h = none_left left h ∙ so_far.same
+  pub recovers_none : (height left : ℕ) (m : List ℕ) → Recovering t a height left m → left ≤ 0 → No ≡ recovers_from t (stack_of a height)
+  recovers_none height left m so_far h = none_left left h ∙ so_far.same
 
-  recovers-step : (left : ℕ) (r : QuestionAnswer) → 0 < left → r ≡ canPlan t 1 (stack_of a left) → recoversFrom t (stack_of a left) ≡ or_else r (recoversFrom t (stack_of a (left - 1)))
-  unfolding recoversFrom stack_of
-  recovers-step zero r h e = absurd (omega arith)
-  recovers-step (suc left) r h e = rw (e, sub-one (suc left))
+  recovers_step : (left : ℕ) (r : QuestionAnswer) → 0 < left → r ≡ can_plan t 1 (stack_of a left) → recovers_from t (stack_of a left) ≡ or_else r (recovers_from t (stack_of a (left - 1)))
+  unfolding recovers_from stack_of
+  recovers_step zero r h e = absurd (omega arith)
+  recovers_step (suc left) r h e = rw (e, sub-one (suc left))
 
-  module _ (height left : ℕ) (m : List ℕ) (so_far : Recovering t a height left m) (r : QuestionAnswer) (more : 0 < left) (is : r ≡ canPlan t 1 (stack_of a left)) where
-    pub recovers-yes : r ≡ Yes → Yes ≡ recoversFrom t (stack_of a height)
-    recovers-yes e = sym (ap (λ q. or_else q (recoversFrom t (stack_of a (left - 1)))) e) ∙ sym (recovers-step left r more is) ∙ so_far.same
+  module _ (height left : ℕ) (m : List ℕ) (so_far : Recovering t a height left m) (r : QuestionAnswer) (more : 0 < left) (is : r ≡ can_plan t 1 (stack_of a left)) where
+    pub recovers_yes : r ≡ Yes → Yes ≡ recovers_from t (stack_of a height)
+    recovers_yes e = sym (ap (λ q. or_else q (recovers_from t (stack_of a (left - 1)))) e) ∙ sym (recovers_step left r more is) ∙ so_far.same
 
-    pub recovers-refused : (k : Refusal) → r ≡ Refused k → Refused k ≡ recoversFrom t (stack_of a height)
-    recovers-refused k e = sym (ap (λ q. or_else q (recoversFrom t (stack_of a (left - 1)))) e) ∙ sym (recovers-step left r more is) ∙ so_far.same
+    pub recovers_refused : (k : Refusal) → r ≡ Refused k → Refused k ≡ recovers_from t (stack_of a height)
+    recovers_refused k e = sym (ap (λ q. or_else q (recovers_from t (stack_of a (left - 1)))) e) ∙ sym (recovers_step left r more is) ∙ so_far.same
 
-    pub recovers-on : (m' : List ℕ) → r ≡ No → length m' ≡ length m → Recovering t a height (left - 1) m'
-    recovers-on m' e kept =
+    pub recovers_on : (m' : List ℕ) → r ≡ No → length m' ≡ length m → Recovering t a height (left - 1) m'
+    recovers_on m' e kept =
         let l = so_far.lower in
         let g = so_far.long in
         record {
           lower = omega arith;
-          same = sym (ap (λ q. or_else q (recoversFrom t (stack_of a (left - 1)))) e) ∙ sym (recovers-step left r more is) ∙ so_far.same;
+          same = sym (ap (λ q. or_else q (recovers_from t (stack_of a (left - 1)))) e) ∙ sym (recovers_step left r more is) ∙ so_far.same;
           long = omega arith;
         }

@@ -11,67 +11,67 @@ use Rattle.meaning.specs.Readings.{states}
 use Rattle.meaning.specs.TableFile.{Table}
 use Rattle.meaning.specs.Walk.{Walked, plan}
 use Rattle.cells.specs.Pool.{cell_at}
-use Rattle.cells.specs.Stacks.{entriesOf}
+use Rattle.cells.specs.Stacks.{entries_of}
 use Rattle.chains.specs.Simulated.{stack_of}
 use Rattle.chains.specs.Marks.{MarksHold}
-use Rattle.chains.specs.Planning.{plan_of, marksLength}
+use Rattle.chains.specs.Planning.{plan_of, marks_length}
 use Rattle.chains.specs.Filling.{PlannedWithin}
 use Rattle.chains.specs.declared.Planned.{Planned}
-use Rattle.chains.proofs.Filled.{stack-planned}
+use Rattle.chains.proofs.Filled.{stack_planned}
 
 -- The part that the planner was lent, put back.
-module _ (at : ℕ) (w m' : List ℕ) (inside : at + marksLength ≤ length w) (lm : length m' ≡ marksLength) where
+module _ (at : ℕ) (w m' : List ℕ) (inside : at + marks_length ≤ length w) (lm : length m' ≡ marks_length) where
   taken : length (take at w) ≡ at
   taken = length-take at w ∙ omega arith
 
-  put_front : (j : ℕ) → j < at → get_or (put_mid at marksLength w m') j 0 ≡ get_or w j 0
+  put_front : (j : ℕ) → j < at → get_or (put_mid at marks_length w m') j 0 ≡ get_or w j 0
   put_front j h = get_or-append (take at w) _ 0 j (omega (arith, taken)) ∙ get_or-take at w j 0 h
 
-  put_on : (i : ℕ) → get_or (put_mid at marksLength w m') (at + i) 0 ≡ get_or (m' ++ post_of at marksLength w) i 0
-  put_on i = ap (λ (j : ℕ). get_or (put_mid at marksLength w m') (j + i) 0) (sym taken) ∙ get_or-append-add (take at w) (m' ++ post_of at marksLength w) i 0
+  put_on : (i : ℕ) → get_or (put_mid at marks_length w m') (at + i) 0 ≡ get_or (m' ++ post_of at marks_length w) i 0
+  put_on i = ap (λ (j : ℕ). get_or (put_mid at marks_length w m') (j + i) 0) (sym taken) ∙ get_or-append-add (take at w) (m' ++ post_of at marks_length w) i 0
 
-  put-marks : (i : ℕ) → i < marksLength → get_or (put_mid at marksLength w m') (at + i) 0 ≡ get_or m' i 0
-  put-marks i h = put_on i ∙ get_or-append m' (post_of at marksLength w) 0 i (omega (arith, lm))
+  put_marks : (i : ℕ) → i < marks_length → get_or (put_mid at marks_length w m') (at + i) 0 ≡ get_or m' i 0
+  put_marks i h = put_on i ∙ get_or-append m' (post_of at marks_length w) 0 i (omega (arith, lm))
 
-  put_back : (j : ℕ) → at + marksLength ≤ j → get_or (put_mid at marksLength w m') j 0 ≡ get_or w j 0
+  put_back : (j : ℕ) → at + marks_length ≤ j → get_or (put_mid at marks_length w m') j 0 ≡ get_or w j 0
   put_back j h =
-      let a : j ≡ at + (marksLength + (j - (at + marksLength))) = omega arith in
-      let b = ap (λ (k : ℕ). get_or (m' ++ post_of at marksLength w) (k + (j - (at + marksLength))) 0) (sym lm) ∙ get_or-append-add m' (post_of at marksLength w) (j - (at + marksLength)) 0 in
-      let c = get_or-drop marksLength (drop at w) (j - (at + marksLength)) 0 ∙ get_or-drop at w (marksLength + (j - (at + marksLength))) 0 in
-      ap (λ (k : ℕ). get_or (put_mid at marksLength w m') k 0) a ∙ put_on (marksLength + (j - (at + marksLength))) ∙ b ∙ c ∙ ap (λ (k : ℕ). get_or w k 0) (sym a)
+      let a : j ≡ at + (marks_length + (j - (at + marks_length))) = omega arith in
+      let b = ap (λ (k : ℕ). get_or (m' ++ post_of at marks_length w) (k + (j - (at + marks_length))) 0) (sym lm) ∙ get_or-append-add m' (post_of at marks_length w) (j - (at + marks_length)) 0 in
+      let c = get_or-drop marks_length (drop at w) (j - (at + marks_length)) 0 ∙ get_or-drop at w (marks_length + (j - (at + marks_length))) 0 in
+      ap (λ (k : ℕ). get_or (put_mid at marks_length w m') k 0) a ∙ put_on (marks_length + (j - (at + marks_length))) ∙ b ∙ c ∙ ap (λ (k : ℕ). get_or w k 0) (sym a)
 
-  same_length : length (put_mid at marksLength w m') ≡ length w
-  same_length = same_len_mid at marksLength w m' (lm ∙ sym mid-length)
+  same_length : length (put_mid at marks_length w m') ≡ length w
+  same_length = same_len_mid at marks_length w m' (lm ∙ sym mid_length)
     where
-      mid-length : length (mid_of at marksLength w) ≡ marksLength
-      mid-length = let b = length-drop at w in length-take marksLength (drop at w) ∙ omega arith
+      mid_length : length (mid_of at marks_length w) ≡ marks_length
+      mid_length = let b = length-drop at w in length-take marks_length (drop at w) ∙ omega arith
 
-  marks-put : take marksLength (drop at (put_mid at marksLength w m')) ≡ m'
-  marks-put =
+  marks_put : take marks_length (drop at (put_mid at marks_length w m')) ≡ m'
+  marks_put =
       let l = same_length in
-      let d = length-drop at (put_mid at marksLength w m') in
-      let e : length (take marksLength (drop at (put_mid at marksLength w m'))) ≡ length m' = length-take marksLength (drop at (put_mid at marksLength w m')) ∙ omega arith in
+      let d = length-drop at (put_mid at marks_length w m') in
+      let e : length (take marks_length (drop at (put_mid at marks_length w m'))) ≡ length m' = length-take marks_length (drop at (put_mid at marks_length w m')) ∙ omega arith in
       ext_get_or 0 _ m' e (λ i h.
-      let j : i < marksLength = omega arith in
-      get_or-take marksLength (drop at (put_mid at marksLength w m')) i 0 j ∙ get_or-drop at (put_mid at marksLength w m') i 0 ∙ put-marks i j)
+      let j : i < marks_length = omega arith in
+      get_or-take marks_length (drop at (put_mid at marks_length w m')) i 0 j ∙ get_or-drop at (put_mid at marks_length w m') i 0 ∙ put_marks i j)
 
-  pub within : (x : Walked) (answer : Planned) → (answer ≡ plan_of x) × MarksHold m' 0 x → PlannedWithin x w at (put_mid at marksLength w m') answer
+  pub within : (x : Walked) (answer : Planned) → (answer ≡ plan_of x) × MarksHold m' 0 x → PlannedWithin x w at (put_mid at marks_length w m') answer
   within x answer k =
       record {
         says = k.0;
-        holds = subst (λ (m : List ℕ). MarksHold m 0 x) (sym marks-put) k.1;
+        holds = subst (λ (m : List ℕ). MarksHold m 0 x) (sym marks_put) k.1;
         same = same_length;
         front = λ j p q. put_front j (omega arith);
         back = λ j p q. put_back j p;
       }
 
 -- The way out of `plan_within`.
-pub planned-within : (t : Table) (room class chains at height top long : ℕ) (w a old m' : List ℕ) (answer : Planned) → at + marksLength ≤ length w → long ≡ marksLength → length m' ≡ length (mid_of at long w)
-    → a ≡ written (reverse (states (entriesOf (cell_at w) height top))) old → (answer ≡ plan_of (plan t room class (stack_of a height) chains)) × MarksHold m' 0 (plan t room class (stack_of a height) chains)
-    → PlannedWithin (plan t room class (states (entriesOf (cell_at w) height top)) chains) w at (put_mid at long w m') answer
-planned-within t room class chains at height top long w a old m' answer inside el kept e k =
+pub planned_within : (t : Table) (room class chains at height top long : ℕ) (w a old m' : List ℕ) (answer : Planned) → at + marks_length ≤ length w → long ≡ marks_length → length m' ≡ length (mid_of at long w)
+    → a ≡ written (reverse (states (entries_of (cell_at w) height top))) old → (answer ≡ plan_of (plan t room class (stack_of a height) chains)) × MarksHold m' 0 (plan t room class (stack_of a height) chains)
+    → PlannedWithin (plan t room class (states (entries_of (cell_at w) height top)) chains) w at (put_mid at long w m') answer
+planned_within t room class chains at height top long w a old m' answer inside el kept e k =
     let d = length-drop at w in
-    let lm : length m' ≡ marksLength = kept ∙ ap (λ (n : ℕ). length (mid_of at n w)) el ∙ length-take marksLength (drop at w) ∙ omega arith in
-    let x = plan t room class (states (entriesOf (cell_at w) height top)) chains in
+    let lm : length m' ≡ marks_length = kept ∙ ap (λ (n : ℕ). length (mid_of at n w)) el ∙ length-take marks_length (drop at w) ∙ omega arith in
+    let x = plan t room class (states (entries_of (cell_at w) height top)) chains in
     subst (λ (n : ℕ). PlannedWithin x w at (put_mid at n w m') answer) (sym el)
-    (within at w m' inside lm x answer (stack-planned t room class chains (cell_at w) height top a old answer m' e k))
+    (within at w m' inside lm x answer (stack_planned t room class chains (cell_at w) height top a old answer m' e k))

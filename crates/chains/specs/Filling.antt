@@ -1,14 +1,14 @@
 -- What a planning of a stack of cells asks.
 use Rattle.std.specs.Prelude.{ℕ, ◌+◌, ◌-◌, ◌≤◌, ◌≡◌, List, length, take, drop}
-use Rattle.meaning.specs.Limits.{maxHeight}
-use Rattle.meaning.specs.Questions.{enoughRoom}
+use Rattle.meaning.specs.Limits.{max_height}
+use Rattle.meaning.specs.Questions.{enough_room}
 use Rattle.meaning.specs.declared.View.{View}
 use Rattle.cells.specs.Stacks.{StackIn}
 use Rattle.table.specs.Answers.{Belongs}
 use Rattle.meaning.specs.Walk.{Walked}
 use Rattle.numbers.specs.Writing.{Agree}
 use Rattle.chains.specs.Marks.{MarksHold}
-use Rattle.chains.specs.Planning.{marksLength, plan_of}
+use Rattle.chains.specs.Planning.{marks_length, plan_of}
 use Rattle.chains.specs.declared.Planned.{Planned}
 
 -- the stack lies in the pool, with its start entry and not too high; no walk needs more room than a question has
@@ -16,25 +16,25 @@ pub record StackAsks (s : List ℕ) (view : View) (pool : List ℕ) (height top 
   pub belongs : Belongs s view
   pub stack : StackIn pool height top
   pub low : 1 ≤ height
-  pub high : height ≤ maxHeight
+  pub high : height ≤ max_height
   pub fits : chains ≤ room
-  pub bound : room ≤ enoughRoom
-  pub long : length marks ≡ marksLength
+  pub bound : room ≤ enough_room
+  pub long : length marks ≡ marks_length
 
 -- The same where the marks stand in the bytes that hold the stack too, from `at` on.
 pub record WithinAsks (s : List ℕ) (view : View) (work : List ℕ) (at height top room chains : ℕ) : Type 0 where
   pub belongs : Belongs s view
   pub stack : StackIn work height top
   pub low : 1 ≤ height
-  pub high : height ≤ maxHeight
+  pub high : height ≤ max_height
   pub fits : chains ≤ room
-  pub bound : room ≤ enoughRoom
-  pub inside : at + marksLength ≤ length work
+  pub bound : room ≤ enough_room
+  pub inside : at + marks_length ≤ length work
 
 -- The answer is that of meaning's planning x, its walk stands in the marks, and no other byte is written.
 pub record PlannedWithin (x : Walked) (w : List ℕ) (at : ℕ) (w' : List ℕ) (answer : Planned) : Type 0 where
   pub says : answer ≡ plan_of x
-  pub holds : MarksHold (take marksLength (drop at w')) 0 x
+  pub holds : MarksHold (take marks_length (drop at w')) 0 x
   pub same : length w' ≡ length w
   pub front : Agree w' w 0 at
-  pub back : Agree w' w (at + marksLength) (length w - (at + marksLength))
+  pub back : Agree w' w (at + marks_length) (length w - (at + marks_length))

@@ -1,15 +1,15 @@
 -- What the planners ask and answer, by meaning's walk.
 use Rattle.std.specs.Prelude.{ℕ, zero, suc, ◌*◌, ◌<◌, ◌≤◌, ◌≡◌, List, length}
-use Rattle.meaning.specs.Limits.{maxHeight, maxWalked}
-use Rattle.meaning.specs.Questions.{enoughRoom}
+use Rattle.meaning.specs.Limits.{max_height, max_walked}
+use Rattle.meaning.specs.Questions.{enough_room}
 use Rattle.meaning.specs.TableFile.{Table, table_of}
-use Rattle.meaning.specs.Walk.{Walked, refused, walked, endChain, walkRules, walkFrom}
+use Rattle.meaning.specs.Walk.{Walked, refused, walked, end_chain, walk_rules, walk_from}
 use Rattle.meaning.specs.declared.Refusal.TheVariants.{ChainTooLong}
 use Rattle.meaning.specs.declared.View.{View}
 use Rattle.numbers.specs.Writing.{Agree}
 use Rattle.table.specs.Answers.{Belongs}
 use Rattle.table.specs.declared.Action.{Action}
-use Rattle.chains.specs.Actions.{shift_of, rulesFrom}
+use Rattle.chains.specs.Actions.{shift_of, rules_from}
 use Rattle.chains.specs.Simulated.{stack_of, Standing}
 use Rattle.chains.specs.Marks.{MarksHold}
 use Rattle.chains.specs.declared.Ask.{Ask}
@@ -23,45 +23,45 @@ abbrev pub plan_of : Walked → Planned
 plan_of (refused k) = planned.Refused k
 plan_of (walked w n c) = planned.Walked n c
 
-abbrev pub endsAs : Action → (room : ℕ) → Progress → Walked
-endsAs a room at = endChain room (shift_of a) at.walked at.chains
+abbrev pub ends_as : Action → (room : ℕ) → Progress → Walked
+ends_as a room at = end_chain room (shift_of a) at.walked at.chains
 
 -- the walk one chain step on
-unfoldable pub deeperOf : (left : ℕ) → Table → (room class : ℕ) → List ℕ → (n c : ℕ) → Walked
-deeperOf zero t room class st n c = refused ChainTooLong
-deeperOf (suc left) t room class st n c = walkFrom left t room class st n c
+unfoldable pub deeper_of : (left : ℕ) → Table → (room class : ℕ) → List ℕ → (n c : ℕ) → Walked
+deeper_of zero t room class st n c = refused ChainTooLong
+deeper_of (suc left) t room class st n c = walk_from left t room class st n c
 
 -- What the planner of a state walks, and that of a rule list.
-unfoldable pub stateWalk : List ℕ → Ask → Stack → Progress → Walked
-stateWalk s ask stack at =
-    walkFrom at.left (table_of s) ask.room ask.class (stack_of stack.states stack.height) at.walked at.chains
+unfoldable pub state_walk : List ℕ → Ask → Stack → Progress → Walked
+state_walk s ask stack at =
+    walk_from at.left (table_of s) ask.room ask.class (stack_of stack.states stack.height) at.walked at.chains
 
-unfoldable pub rulesWalk : List ℕ → Ask → Stack → Progress → Action → (next : ℕ) → Walked
-rulesWalk s ask stack at a i =
-    walkRules (table_of s) ask.room at.left (deeperOf at.left (table_of s) ask.room ask.class) (shift_of a)
-    (stack_of stack.states stack.height) (rulesFrom a i) at.walked at.chains
+unfoldable pub rules_walk : List ℕ → Ask → Stack → Progress → Action → (next : ℕ) → Walked
+rules_walk s ask stack at a i =
+    walk_rules (table_of s) ask.room at.left (deeper_of at.left (table_of s) ask.room ask.class) (shift_of a)
+    (stack_of stack.states stack.height) (rules_from a i) at.walked at.chains
 
 -- Marks for a whole planning, 4 bytes each.
-abbrev pub marksLength : ℕ
-marksLength = 4 * maxWalked
+abbrev pub marks_length : ℕ
+marks_length = 4 * max_walked
 
 -- What a planning asks. No walk needs more room than a question has.
 pub record Asks (s : List ℕ) (view : View) (room height chains : ℕ) (marks : List ℕ) : Type 0 where
   pub belongs : Belongs s view
   pub low : 1 ≤ height
-  pub high : height ≤ maxHeight
+  pub high : height ≤ max_height
   pub fits : chains ≤ room
-  pub bound : room ≤ enoughRoom
-  pub long : length marks ≡ marksLength
+  pub bound : room ≤ enough_room
+  pub long : length marks ≡ marks_length
 
 -- What the planner of a state asks, and that of a rule list.
 pub record Ready (s : List ℕ) (ask : Ask) (stack : Stack) (at : Progress) (marks : List ℕ) : Type 0 where
   pub belongs : Belongs s ask.view
   pub stands : Standing stack
-  pub few : at.walked ≤ maxWalked
+  pub few : at.walked ≤ max_walked
   pub fits : at.chains ≤ ask.room
-  pub bound : ask.room ≤ enoughRoom
-  pub long : length marks ≡ marksLength
+  pub bound : ask.room ≤ enough_room
+  pub long : length marks ≡ marks_length
 
 pub record RulesReady (s : List ℕ) (ask : Ask) (stack : Stack) (at : Progress) (a : Action) (marks : List ℕ) : Type 0 where
   pub ready : Ready s ask stack at marks
@@ -70,10 +70,10 @@ pub record RulesReady (s : List ℕ) (ask : Ask) (stack : Stack) (at : Progress)
 -- What a mark asks: the walk went on from the one place to the other.
 pub record MarkReady (marks : List ℕ) (at after : Progress) : Type 0 where
   pub more : at.walked < after.walked
-  pub few : after.walked ≤ maxWalked
+  pub few : after.walked ≤ max_walked
   pub grown : at.chains ≤ after.chains
-  pub bound : after.chains ≤ enoughRoom
-  pub long : length marks ≡ marksLength
+  pub bound : after.chains ≤ enough_room
+  pub long : length marks ≡ marks_length
 
 -- What both answer: the walk's counts or refusal; the marks hold the walk, and those before it are kept.
 pub record Answers (r : Planned) (m m' : List ℕ) (at : Progress) (x : Walked) : Type 0 where

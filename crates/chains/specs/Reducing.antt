@@ -1,7 +1,7 @@
 -- One reduction as the code answers it, by meaning's `reduction`.
 use Rattle.std.specs.Prelude.{ℕ, ◌+◌, ◌-◌, ◌<◌, ◌≤◌, ◌≡◌, List}
-use Rattle.meaning.specs.Limits.{maxHeight, maxWalked}
-use Rattle.meaning.specs.TableFile.{Table, ruleOf}
+use Rattle.meaning.specs.Limits.{max_height, max_walked}
+use Rattle.meaning.specs.TableFile.{Table, rule_of}
 use Rattle.meaning.specs.Walk.{Walked, refused, reduction}
 use Rattle.chains.specs.Simulated.{stack_of}
 use Rattle.chains.specs.declared.reducing.Stack.{Stack}
@@ -16,16 +16,16 @@ pub record Stepped (at r : Progress) : Type 0 where
   pub chains : r.chains ≡ at.chains
 
 -- how the walk goes on after the answer
-abbrev pub reducedTo : (states : List ℕ) → Reduced → (go : ℕ → List ℕ → Walked) → Walked
-reducedTo a (Refused k) go = refused k
-reducedTo a (To state base) go = go state.0 (stack_of a base)
+abbrev pub reduced_to : (states : List ℕ) → Reduced → (go : ℕ → List ℕ → Walked) → Walked
+reduced_to a (Refused k) go = refused k
+reduced_to a (To state base) go = go state.0 (stack_of a base)
 
 -- what was tested where it is not refused
 abbrev pub Allowed : Progress → Reduced → Type 0
 Allowed at (Refused k) = Unit {0}
-Allowed at (To state base) = (1 ≤ at.left) × (at.walked < maxWalked) × (1 ≤ base) × (base < maxHeight)
+Allowed at (To state base) = (1 ≤ at.left) × (at.walked < max_walked) × (1 ≤ base) × (base < max_height)
 
 -- the answer is meaning's, whatever comes after it
 pub record IsReduction (t : Table) (number : ℕ) (stack : Stack) (at : Progress) (r : Reduced) : Type 0 where
-  pub same : (go : ℕ → List ℕ → Walked) → reduction t (ruleOf t number) (stack_of stack.states stack.height) at.left at.walked go ≡ reducedTo stack.states r go
+  pub same : (go : ℕ → List ℕ → Walked) → reduction t (rule_of t number) (stack_of stack.states stack.height) at.left at.walked go ≡ reduced_to stack.states r go
   pub allowed : Allowed at r

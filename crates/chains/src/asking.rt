@@ -1,7 +1,7 @@
 // Whether one stack can be planned, and whether one can be at some height: the core of the three questions.
 ghost use Rattle.std.specs.Prelude.{◌≡◌};
 ghost use Rattle.meaning.specs.TableFile.{table_of};
-ghost use Rattle.meaning.specs.Questions.{enoughRoom, canPlan, recoversFrom};
+ghost use Rattle.meaning.specs.Questions.{enough_room, can_plan, recovers_from};
 ghost use Rattle.chains.specs.Simulated.{stack_of};
 ghost use Rattle.chains.specs.Planning.{Asks};
 
@@ -20,8 +20,8 @@ pub fn can_plan(
     height: usize,
     marks: &mut [u8],
 ) -> QuestionAnswer
-    requires { Asks table.now view enoughRoom height 0 marks.old }
-    ensures { result ≡ canPlan (table_of table.now) class (stack_of stack height) }
+    requires { Asks table.now view enough_room height 0 marks.old }
+    ensures { result ≡ can_plan (table_of table.now) class (stack_of stack height) }
 {
     let planned = plan(table, view, ENOUGH_ROOM, class, stack, height, 0, marks);
     match planned {
@@ -43,8 +43,8 @@ pub fn recovers_from(
     height: usize,
     marks: &mut [u8],
 ) -> QuestionAnswer
-    requires { Asks table.now view enoughRoom height 0 marks.old }
-    ensures { result ≡ recoversFrom (table_of table.now) (stack_of stack height) }
+    requires { Asks table.now view enough_room height 0 marks.old }
+    ensures { result ≡ recovers_from (table_of table.now) (stack_of stack height) }
 {
     let mut left = height;
     while 0 < left {

@@ -3,9 +3,9 @@ ghost use Rattle.std.specs.Prelude.{◌≡◌};
 ghost use Rattle.meaning.specs.TableFile.{table_of};
 ghost use Rattle.meaning.specs.Readings.{states};
 ghost use Rattle.meaning.specs.Walk.{plan};
-ghost use Rattle.meaning.specs.Questions.{enoughRoom, canPlan, recoversFrom};
+ghost use Rattle.meaning.specs.Questions.{enough_room, can_plan, recovers_from};
 ghost use Rattle.cells.specs.Pool.{cell_at};
-ghost use Rattle.cells.specs.Stacks.{entriesOf};
+ghost use Rattle.cells.specs.Stacks.{entries_of};
 ghost use Rattle.chains.specs.Marks.{MarksHold};
 ghost use Rattle.chains.specs.Planning.{plan_of};
 ghost use Rattle.chains.specs.Filling.{StackAsks, WithinAsks, PlannedWithin};
@@ -26,8 +26,8 @@ pub fn plan_stack(
     marks: &mut [u8],
 ) -> Planned
     requires { StackAsks table.now view pool.now height top.0 room chains marks.old }
-    ensures answer { result ≡ plan_of (plan (table_of table.now) room class (states (entriesOf (cell_at pool.now) height top.0)) chains) }
-    ensures marked { MarksHold marks.new 0 (plan (table_of table.now) room class (states (entriesOf (cell_at pool.now) height top.0)) chains) }
+    ensures answer { result ≡ plan_of (plan (table_of table.now) room class (states (entries_of (cell_at pool.now) height top.0)) chains) }
+    ensures marked { MarksHold marks.new 0 (plan (table_of table.now) room class (states (entries_of (cell_at pool.now) height top.0)) chains) }
 {
     let stack = cells::states_into(pool, height, top, [0; HEIGHTS]);
     super::plan(
@@ -55,7 +55,7 @@ pub fn plan_within(
     chains: usize,
 ) -> Planned
     requires { WithinAsks table.now view work.old at height top.0 room chains }
-    ensures { PlannedWithin (plan (table_of table.now) room class (states (entriesOf (cell_at work.old) height top.0)) chains) work.old at work.new result }
+    ensures { PlannedWithin (plan (table_of table.now) room class (states (entries_of (cell_at work.old) height top.0)) chains) work.old at work.new result }
 {
     let stack = cells::states_into(work, height, top, [0; HEIGHTS]);
     let end = at + 4096;
@@ -81,8 +81,8 @@ pub fn can_plan_stack(
     class: u16,
     marks: &mut [u8],
 ) -> QuestionAnswer
-    requires { StackAsks table.now view pool.now height top.0 enoughRoom 0 marks.old }
-    ensures { result ≡ canPlan (table_of table.now) class (states (entriesOf (cell_at pool.now) height top.0)) }
+    requires { StackAsks table.now view pool.now height top.0 enough_room 0 marks.old }
+    ensures { result ≡ can_plan (table_of table.now) class (states (entries_of (cell_at pool.now) height top.0)) }
 {
     let stack = cells::states_into(pool, height, top, [0; HEIGHTS]);
     asking::can_plan(table, view, class, stack, height as usize, marks)
@@ -97,8 +97,8 @@ pub fn recovers_stack(
     top: CellNo,
     marks: &mut [u8],
 ) -> QuestionAnswer
-    requires { StackAsks table.now view pool.now height top.0 enoughRoom 0 marks.old }
-    ensures { result ≡ recoversFrom (table_of table.now) (states (entriesOf (cell_at pool.now) height top.0)) }
+    requires { StackAsks table.now view pool.now height top.0 enough_room 0 marks.old }
+    ensures { result ≡ recovers_from (table_of table.now) (states (entries_of (cell_at pool.now) height top.0)) }
 {
     let stack = cells::states_into(pool, height, top, [0; HEIGHTS]);
     asking::recovers_from(table, view, stack, height as usize, marks)

@@ -1,13 +1,13 @@
 // One planning: the whole walk of one stack at one class, with its refusals and counts, and the marks by which it is followed.
 ghost use Rattle.std.specs.Prelude.{◌≡◌, ◌-◌, ◌*◌, ◌<◌, ◌≤◌, length};
-ghost use Rattle.meaning.specs.Limits.{maxWalked};
-ghost use Rattle.meaning.specs.Questions.{enoughRoom};
+ghost use Rattle.meaning.specs.Limits.{max_walked};
+ghost use Rattle.meaning.specs.Questions.{enough_room};
 ghost use Rattle.meaning.specs.TableFile.{table_of};
 ghost use Rattle.meaning.specs.Walk.{plan};
 ghost use Rattle.chains.specs.Simulated.{stack_of};
-ghost use Rattle.chains.specs.Marks.{putMark, chainsMark, sizeMark, MarksHold};
-ghost use Rattle.chains.specs.Actions.{tooHigh};
-ghost use Rattle.chains.specs.Planning.{plan_of, endsAs, Asks, Ready, RulesReady, MarkReady, Answers, stateWalk, rulesWalk};
+ghost use Rattle.chains.specs.Marks.{put_mark, chains_mark, size_mark, MarksHold};
+ghost use Rattle.chains.specs.Actions.{too_high};
+ghost use Rattle.chains.specs.Planning.{plan_of, ends_as, Asks, Ready, RulesReady, MarkReady, Answers, state_walk, rules_walk};
 
 use meaning::{HEIGHTS, MAX_CHAIN, Refusal, View};
 use reducing::{Progress, Reduced, Stack};
@@ -36,7 +36,7 @@ struct Ask {
 
 // Whether a state with this action is reached too high up to shift.
 fn too_high(action: Action, height: usize) -> bool
-    ensures { result ≡ tooHigh action height }
+    ensures { result ≡ too_high action height }
 {
     if action.shifts {
         return HEIGHTS <= height;
@@ -46,8 +46,8 @@ fn too_high(action: Action, height: usize) -> bool
 
 // The end of a rule list: the shift ends a chain, if there is room for one more.
 fn end_chain(action: Action, room: usize, at: Progress) -> Planned
-    requires { at.chains ≤ enoughRoom }
-    ensures { result ≡ plan_of (endsAs action room at) }
+    requires { at.chains ≤ enough_room }
+    ensures { result ≡ plan_of (ends_as action room at) }
 {
     let walked = at.walked;
     let chains = at.chains;
@@ -66,7 +66,7 @@ fn end_chain(action: Action, room: usize, at: Progress) -> Planned
 // Writes the mark of the reduction tried at a place: the chains ended and the reductions tried from there on.
 fn put_mark(marks: &mut [u8], at: Progress, after: Progress)
     requires { MarkReady marks.old at after }
-    ensures { marks.new ≡ putMark marks.old at.walked (after.chains - at.chains) (after.walked - at.walked) }
+    ensures { marks.new ≡ put_mark marks.old at.walked (after.chains - at.chains) (after.walked - at.walked) }
 {
     let chains = after.chains - at.chains;
     let size = after.walked - at.walked;
@@ -76,16 +76,16 @@ fn put_mark(marks: &mut [u8], at: Progress, after: Progress)
 
 // How many chains end below the reduction with the mark numbered k.
 pub fn chains_mark(marks: &[u8], k: usize) -> usize
-    requires { (k < maxWalked) × (4 * maxWalked ≤ length marks.now) }
-    ensures { result ≡ chainsMark marks.now k }
+    requires { (k < max_walked) × (4 * max_walked ≤ length marks.now) }
+    ensures { result ≡ chains_mark marks.now k }
 {
     numbers::get16(marks, k * 4) as usize
 }
 
 // How many marks that reduction has, with those below it.
 pub fn size_mark(marks: &[u8], k: usize) -> usize
-    requires { (k < maxWalked) × (4 * maxWalked ≤ length marks.now) }
-    ensures { result ≡ sizeMark marks.now k }
+    requires { (k < max_walked) × (4 * max_walked ≤ length marks.now) }
+    ensures { result ≡ size_mark marks.now k }
 {
     numbers::get16(marks, k * 4 + 2) as usize
 }
@@ -94,7 +94,7 @@ pub fn size_mark(marks: &[u8], k: usize) -> usize
 #[cycle(plan_rules_plan_state)]
 fn plan_state(table: &[u8], ask: Ask, stack: Stack, at: Progress, marks: &mut [u8]) -> Planned
     requires { Ready table.now ask stack at marks.old }
-    ensures { Answers result marks.old marks.new at (stateWalk table.now ask stack at) }
+    ensures { Answers result marks.old marks.new at (state_walk table.now ask stack at) }
 {
     let action = table::action_of(table, ask.view, reducing::top(stack), ask.class);
     if too_high(action, stack.height) {
@@ -114,7 +114,7 @@ fn plan_rules(
     marks: &mut [u8],
 ) -> Planned
     requires { RulesReady table.now ask stack from action marks.old }
-    ensures { Answers result marks.old marks.new from (rulesWalk table.now ask stack from action 0) }
+    ensures { Answers result marks.old marks.new from (rules_walk table.now ask stack from action 0) }
 {
     let count = reducing::wide(action.count);
     let mut at = from;

@@ -1,6 +1,6 @@
 // One reduction of a simulated stack, with the refusals that it may meet.
 ghost use Rattle.std.specs.Prelude.{◌≡◌, ◌+◌, ◌-◌, ◌<◌, ◌≤◌, get_or};
-ghost use Rattle.meaning.specs.Limits.{maxHeight, maxWalked};
+ghost use Rattle.meaning.specs.Limits.{max_height, max_walked};
 ghost use Rattle.meaning.specs.TableFile.{table_of};
 ghost use Rattle.table.specs.Answers.{Belongs};
 ghost use Rattle.chains.specs.Simulated.{stack_of, Standing, Pushed};
@@ -49,7 +49,7 @@ pub fn top(stack: Stack) -> StateNo
 
 // The stack with `base` entries kept and one state on top of them.
 pub fn pushed(stack: Stack, base: usize, state: StateNo) -> Stack
-    requires { base < maxHeight }
+    requires { base < max_height }
     ensures { Pushed stack base state result }
 {
     let mut states = stack.states;
@@ -62,7 +62,7 @@ pub fn pushed(stack: Stack, base: usize, state: StateNo) -> Stack
 
 // One reduction further on.
 pub fn stepped(at: Progress) -> Progress
-    requires { (1 ≤ at.left) × (at.walked < maxWalked) }
+    requires { (1 ≤ at.left) × (at.walked < max_walked) }
     ensures { Stepped at result }
 {
     Progress {

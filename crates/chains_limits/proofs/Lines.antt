@@ -8,16 +8,16 @@ use native.Mathlib.Omega.{arith}
 use Rattle.meaning.specs.declared.View.{View}
 use Rattle.cells.specs.Pool.{cell_at}
 use Rattle.cells.specs.Stacks.{linked}
-use Rattle.cells.proofs.Stacks.{linked-claim}
+use Rattle.cells.proofs.Stacks.{linked_claim}
 use Rattle.table.specs.Answers.{Belongs}
 use Rattle.chains.specs.Filling.{StackAsks}
 
-line-stack : (s : List ℕ) (v : View) (pool m : List ℕ) (h c room n : ℕ) (r : Bool) → n ≤ room → room ≤ 1025 → Belongs s v → 1 ≤ h → h ≤ 64 → length pool ≡ 1152 → length m ≡ 4096
+line_stack : (s : List ℕ) (v : View) (pool m : List ℕ) (h c room n : ℕ) (r : Bool) → n ≤ room → room ≤ 1025 → Belongs s v → 1 ≤ h → h ≤ 64 → length pool ≡ 1152 → length m ≡ 4096
     → r ≡ linked 64 512 (cell_at pool) h c → r ≡ true → StackAsks s v pool h c room n m
-line-stack s v pool m h c room n r few wide y low high l k e f =
+line_stack s v pool m h c room n r few wide y low high l k e f =
     record {
       belongs = y;
-      stack = record { cells = 64; room = omega arith; stack = (linked-claim 64 512 (cell_at pool) h c (sym e ∙ f)).0 };
+      stack = record { cells = 64; room = omega arith; stack = (linked_claim 64 512 (cell_at pool) h c (sym e ∙ f)).0 };
       low = low;
       high = high;
       fits = few;
@@ -26,10 +26,10 @@ line-stack s v pool m h c room n r few wide y low high l k e f =
     }
 
 -- for a planning as in a feed, and for a question
-pub line-asks : (s : List ℕ) (v : View) (pool m : List ℕ) (h c n : ℕ) (r : Bool) → Belongs s v → 1 ≤ h → h ≤ 64 → n ≤ 16 → length pool ≡ 1152 → length m ≡ 4096
+pub line_asks : (s : List ℕ) (v : View) (pool m : List ℕ) (h c n : ℕ) (r : Bool) → Belongs s v → 1 ≤ h → h ≤ 64 → n ≤ 16 → length pool ≡ 1152 → length m ≡ 4096
     → r ≡ linked 64 512 (cell_at pool) h c → r ≡ true → StackAsks s v pool h c 16 n m
-line-asks s v pool m h c n r y low high few = line-stack s v pool m h c 16 n r few (omega arith) y low high
+line_asks s v pool m h c n r y low high few = line_stack s v pool m h c 16 n r few (omega arith) y low high
 
-pub line-asked : (s : List ℕ) (v : View) (pool m : List ℕ) (h c : ℕ) (r : Bool) → Belongs s v → 1 ≤ h → h ≤ 64 → length pool ≡ 1152 → length m ≡ 4096
+pub line_asked : (s : List ℕ) (v : View) (pool m : List ℕ) (h c : ℕ) (r : Bool) → Belongs s v → 1 ≤ h → h ≤ 64 → length pool ≡ 1152 → length m ≡ 4096
     → r ≡ linked 64 512 (cell_at pool) h c → r ≡ true → StackAsks s v pool h c 1025 0 m
-line-asked s v pool m h c r = line-stack s v pool m h c 1025 0 r (omega arith) (omega arith)
+line_asked s v pool m h c r = line_stack s v pool m h c 1025 0 r (omega arith) (omega arith)

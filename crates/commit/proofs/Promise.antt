@@ -6,35 +6,35 @@ use mathlib.Core.List.{List, [], ◌∷◌, map}
 use Prim.Native.Nat.{ℕ, zero, suc, ◌+◌, ◌<◌, ◌≤◌}
 use native.Mathlib.Omega.{arith}
 use lib.ListN.{length}
-use Rattle.meaning.specs.Identities.{renEntry, renReading}
-use Rattle.meaning.specs.Readings.{Entry, Reading, holds, heldBy}
-use Rattle.meaning.proofs.Held.{readings-held}
-use Rattle.numbers.specs.Writing.{putU16, Agree, length-putU16, agree-putU16, u16-putU16, u16-back}
+use Rattle.meaning.specs.Identities.{ren_entry, ren_reading}
+use Rattle.meaning.specs.Readings.{Entry, Reading, holds, held_by}
+use Rattle.meaning.proofs.Held.{readings_held}
+use Rattle.numbers.specs.Writing.{put_u16, Agree, length_put_u16, agree_put_u16, u16_put_u16, u16_back}
 use Rattle.cells.specs.Pool.{cell_at}
-use Rattle.cells.specs.Stacks.{entriesOf, StatesBelow}
-use Rattle.cells.proofs.Stacks.{linked-top}
-use Rattle.state.specs.Layout.{readingsAt, countAt, usedAt, mapAt, workCells, stateLength}
-use Rattle.state.specs.Readings.{slot_at, topAt, heightAt, readingAt, readingsFrom, count_of, usedOf, readingsOf, resultsOf, Compact, StandsAt, AllStand}
-use Rattle.state.specs.Check.{validState, StatesKnown}
+use Rattle.cells.specs.Stacks.{entries_of, StatesBelow}
+use Rattle.cells.proofs.Stacks.{linked_top}
+use Rattle.state.specs.Layout.{readings_at, count_at, used_at, map_at, work_cells, state_len}
+use Rattle.state.specs.Readings.{slot_at, top_at, height_at, reading_at, readings_from, count_of, used_of, readings_of, results_of, Compact, StandsAt, AllStand}
+use Rattle.state.specs.Check.{valid_state, StatesKnown}
 use Rattle.state.specs.declared.Slot.{Slot}
-use Rattle.state.proofs.Slots.{slot-agree}
-use Rattle.state.proofs.Lists.{length-readings, all-stand-kept}
-use Rattle.state.proofs.Valid.{valid-from}
+use Rattle.state.proofs.Slots.{slot_agree}
+use Rattle.state.proofs.Lists.{length_readings, all_stand_kept}
+use Rattle.state.proofs.Valid.{valid_from}
 use Rattle.commit.specs.Moving.{moved_to, forgotten, Move, move}
-use Rattle.commit.specs.Committing.{commitFrom, commitOf, Results, Committed, Commits, ListReady}
-use Rattle.commit.proofs.Map.{length-forgotten, agree-forgotten, moved_nowhere, cell-kept, slot_kept}
-use Rattle.commit.proofs.Moving.{Good, Source, good-state}
-use Rattle.commit.proofs.Sharing.{renamed, moved-height, moved-entries, moved-linked, Gone, held-gone, gone-apart}
+use Rattle.commit.specs.Committing.{commit_from, commit_of, Results, Committed, Commits, ListReady}
+use Rattle.commit.proofs.Map.{length_forgotten, agree_forgotten, moved_nowhere, cell_kept, slot_kept}
+use Rattle.commit.proofs.Moving.{Good, Source, good_state}
+use Rattle.commit.proofs.Sharing.{renamed, moved_height, moved_entries, moved_linked, Gone, held_gone, gone_apart}
 use Rattle.commit.proofs.Listing.{Going, Done, all_done}
 
 -- Other identities, the same states.
-ren-states : (m : ℕ) (ρ : ℕ → ℕ) (es : List Entry) → StatesBelow m es → StatesBelow m (map (renEntry ρ) es)
-ren-states m ρ [] h = tt
-ren-states m ρ (e ∷ es) h = (h.0, ren-states m ρ es h.1)
+ren_states : (m : ℕ) (ρ : ℕ → ℕ) (es : List Entry) → StatesBelow m es → StatesBelow m (map (ren_entry ρ) es)
+ren_states m ρ [] h = tt
+ren_states m ρ (e ∷ es) h = (h.0, ren_states m ρ es h.1)
 
-ren-known : (m : ℕ) (ρ : ℕ → ℕ) (rs : List Reading) → StatesKnown m rs → StatesKnown m (map (renReading ρ) rs)
-ren-known m ρ [] h = tt
-ren-known m ρ (r ∷ rs) h = (ren-states m ρ r.stack h.0, ren-known m ρ rs h.1)
+ren_known : (m : ℕ) (ρ : ℕ → ℕ) (rs : List Reading) → StatesKnown m rs → StatesKnown m (map (ren_reading ρ) rs)
+ren_known m ρ [] h = tt
+ren_known m ρ (r ∷ rs) h = (ren_states m ρ r.stack h.0, ren_known m ρ rs h.1)
 
 module _ (w s : List ℕ) (at count cells : ℕ) (y : Results w s at count cells) where
   -- Nothing has moved at first.
@@ -48,11 +48,11 @@ module _ (w s : List ℕ) (at count cells : ℕ) (y : Results w s at count cells
       let pool = y.pool in
       record {
         pool = y.pool;
-        kept = agree-forgotten w cells y.work y.pool;
+        kept = agree_forgotten w cells y.work y.pool;
         good =
             record {
-              same = λ c h. cell-kept (forgotten w cells) w (agree-forgotten w cells y.work y.pool) c (omega arith);
-              work = length-forgotten w cells y.work y.pool ∙ y.work;
+              same = λ c h. cell_kept (forgotten w cells) w (agree_forgotten w cells y.work y.pool) c (omega arith);
+              work = length_forgotten w cells y.work y.pool ∙ y.work;
               state = y.state;
               below = λ c k h e. absurd (nowhere c k h e);
               copy = λ c k h e. absurd (nowhere c k h e);
@@ -68,108 +68,108 @@ module _ (w s : List ℕ) (at count cells : ℕ) (y : Results w s at count cells
 
   -- Before both counts are written (r), and after (s').
   r : Move
-  r = commitFrom at count (forgotten w cells) s 0 0
+  r = commit_from at count (forgotten w cells) s 0 0
 
   s' : List ℕ
-  s' = putU16 (putU16 r.state countAt count) usedAt r.next
+  s' = put_u16 (put_u16 r.state count_at count) used_at r.next
 
   d : Done cells w (forgotten w cells) s at count 0 0 r
   unfolding r
   d = all_done cells w (forgotten w cells) s at count 0 0 going
 
   -- The counts, and what they leave alone.
-  long : length (putU16 r.state countAt count) ≡ stateLength
-  long = length-putU16 r.state countAt count ∙ d.state ∙ y.state
+  long : length (put_u16 r.state count_at count) ≡ state_len
+  long = length_put_u16 r.state count_at count ∙ d.state ∙ y.state
 
   counted : count_of s' ≡ count
   unfolding s'
   counted =
       let l = d.state ∙ y.state in
-      u16-putU16 (putU16 r.state countAt count) usedAt r.next countAt (inr (omega arith)) ∙ u16-back r.state countAt count (omega arith)
+      u16_put_u16 (put_u16 r.state count_at count) used_at r.next count_at (inr (omega arith)) ∙ u16_back r.state count_at count (omega arith)
 
-  used : usedOf s' ≡ r.next
+  used : used_of s' ≡ r.next
   unfolding s'
-  used = let l = long in u16-back (putU16 r.state countAt count) usedAt r.next (omega arith)
+  used = let l = long in u16_back (put_u16 r.state count_at count) used_at r.next (omega arith)
 
-  before-counts : Agree s' r.state 0 countAt
+  before_counts : Agree s' r.state 0 count_at
   unfolding s'
-  before-counts k h i =
-      agree-putU16 (putU16 r.state countAt count) usedAt r.next 0 countAt (inr (omega arith)) k h i
-      ∙ agree-putU16 r.state countAt count 0 countAt (inr (omega arith)) k h i
+  before_counts k h i =
+      agree_put_u16 (put_u16 r.state count_at count) used_at r.next 0 count_at (inr (omega arith)) k h i
+      ∙ agree_put_u16 r.state count_at count 0 count_at (inr (omega arith)) k h i
 
   good : Good cells (cell_at w) r.work s' r.next
   unfolding s'
   good =
-      let l = length-putU16 (putU16 r.state countAt count) usedAt r.next ∙ length-putU16 r.state countAt count in
-      good-state cells (cell_at w) r.work r.state s' r.next d.bound l (λ k h i. before-counts k h (omega arith)) d.good
+      let l = length_put_u16 (put_u16 r.state count_at count) used_at r.next ∙ length_put_u16 r.state count_at count in
+      good_state cells (cell_at w) r.work r.state s' r.next d.bound l (λ k h i. before_counts k h (omega arith)) d.good
 
-  same-slot : (j : ℕ) → j < count → slot_at s' readingsAt j ≡ slot_at r.state readingsAt j
-  same-slot j h = let few = y.few in slot-agree s' r.state readingsAt j (λ k a b. before-counts k (omega arith) (omega arith))
+  same_slot : (j : ℕ) → j < count → slot_at s' readings_at j ≡ slot_at r.state readings_at j
+  same_slot j h = let few = y.few in slot_agree s' r.state readings_at j (λ k a b. before_counts k (omega arith) (omega arith))
 
   -- Reading by reading.
   stands : (j : ℕ) → j < count → StandsAt cells w at j
   stands j h = y.stands j (omega arith) (omega arith)
 
-  found : (j : ℕ) → j < count → moved_to r.work (topAt w at j) ≡ suc (topAt s' readingsAt j)
-  found j h = d.found j (omega arith) (omega arith) ∙ ap (λ (x : Slot). suc x.top.0) (sym (same-slot j h))
+  found : (j : ℕ) → j < count → moved_to r.work (top_at w at j) ≡ suc (top_at s' readings_at j)
+  found j h = d.found j (omega arith) (omega arith) ∙ ap (λ (x : Slot). suc x.top.0) (sym (same_slot j h))
 
-  height : (j : ℕ) → j < count → heightAt s' readingsAt j ≡ heightAt w at j
+  height : (j : ℕ) → j < count → height_at s' readings_at j ≡ height_at w at j
   height j h =
-      moved-height cells (cell_at w) r.work s' r.next good (topAt w at j) (topAt s' readingsAt j)
-      (linked-top cells (cell_at w) (heightAt w at j) (topAt w at j) (stands j h).low (stands j h).stack) (found j h)
+      moved_height cells (cell_at w) r.work s' r.next good (top_at w at j) (top_at s' readings_at j)
+      (linked_top cells (cell_at w) (height_at w at j) (top_at w at j) (stands j h).low (stands j h).stack) (found j h)
 
-  reading-same : (j : ℕ) → j < count → readingAt s' readingsAt j ≡ renReading (renamed r.work) (readingAt w at j)
-  reading-same j h =
-      let mark : (slot_at s' readingsAt j).mark ≡ (slot_at w at j).mark = ap (λ (x : Slot). x.mark) (same-slot j h) ∙ d.mark j (omega arith) (omega arith) in
-      let stack : entriesOf (cell_at s') (heightAt s' readingsAt j) (topAt s' readingsAt j) ≡ map (renEntry (renamed r.work)) (entriesOf (cell_at w) (heightAt w at j) (topAt w at j)) =
-      rw (height j h) (moved-entries cells (cell_at w) r.work s' r.next good (heightAt w at j) (topAt w at j) (topAt s' readingsAt j) (stands j h).stack (found j h)) in
+  reading_same : (j : ℕ) → j < count → reading_at s' readings_at j ≡ ren_reading (renamed r.work) (reading_at w at j)
+  reading_same j h =
+      let mark : (slot_at s' readings_at j).mark ≡ (slot_at w at j).mark = ap (λ (x : Slot). x.mark) (same_slot j h) ∙ d.mark j (omega arith) (omega arith) in
+      let stack : entries_of (cell_at s') (height_at s' readings_at j) (top_at s' readings_at j) ≡ map (ren_entry (renamed r.work)) (entries_of (cell_at w) (height_at w at j) (top_at w at j)) =
+      rw (height j h) (moved_entries cells (cell_at w) r.work s' r.next good (height_at w at j) (top_at w at j) (top_at s' readings_at j) (stands j h).stack (found j h)) in
       λ i. record { mark = mark i; stack = stack i }
 
-  readings-same : (k i : ℕ) → i + k ≤ count → readingsFrom s' readingsAt i k ≡ map (renReading (renamed r.work)) (readingsFrom w at i k)
-  unfolding readingsFrom
-  readings-same zero i h = refl
-  readings-same (suc k) i h =
-      let first = reading-same i (omega arith) in
-      let rest = readings-same k (i + 1) (omega arith) in
+  readings_same : (k i : ℕ) → i + k ≤ count → readings_from s' readings_at i k ≡ map (ren_reading (renamed r.work)) (readings_from w at i k)
+  unfolding readings_from
+  readings_same zero i h = refl
+  readings_same (suc k) i h =
+      let first = reading_same i (omega arith) in
+      let rest = readings_same k (i + 1) (omega arith) in
       λ j. first j ∷ rest j
 
-  same : readingsOf s' ≡ map (renReading (renamed r.work)) (resultsOf w at count)
-  same = ap (readingsFrom s' readingsAt 0) counted ∙ readings-same count 0 (omega arith)
+  same : readings_of s' ≡ map (ren_reading (renamed r.work)) (results_of w at count)
+  same = ap (readings_from s' readings_at 0) counted ∙ readings_same count 0 (omega arith)
 
-  all-stand : AllStand (usedOf s') s' readingsAt 0 (count_of s')
-  all-stand j a b =
+  all_stand : AllStand (used_of s') s' readings_at 0 (count_of s')
+  all_stand j a b =
       let c = counted in
       let h : j < count = omega arith in
       rw used
       (record {
         low = rw (height j h) (stands j h).low;
         high = rw (height j h) (stands j h).high;
-        stack = rw (height j h) (moved-linked cells (cell_at w) r.work s' r.next good (heightAt w at j) (topAt w at j) (topAt s' readingsAt j) (stands j h).stack (found j h));
+        stack = rw (height j h) (moved_linked cells (cell_at w) r.work s' r.next good (height_at w at j) (top_at w at j) (top_at s' readings_at j) (stands j h).stack (found j h));
       })
 
-  valid : (m : ℕ) → StatesKnown m (resultsOf w at count) → validState m s' ≡ true
+  valid : (m : ℕ) → StatesKnown m (results_of w at count) → valid_state m s' ≡ true
   valid m h =
       let c = counted in
       let u = used in
       let b = d.bound in
       let few = y.few in
-      valid-from m s' (omega arith) (omega arith) all-stand (rw same (ren-known m (renamed r.work) (resultsOf w at count) h))
+      valid_from m s' (omega arith) (omega arith) all_stand (rw same (ren_known m (renamed r.work) (results_of w at count) h))
 
   -- Who is held has gone somewhere, so no two become one.
-  gone : (k i a : ℕ) → i + k ≤ count → heldBy (readingsFrom w at i k) a ≡ true → Gone cells (cell_at w) r.work s' r.next good a
-  unfolding readingsFrom heldBy
+  gone : (k i a : ℕ) → i + k ≤ count → held_by (readings_from w at i k) a ≡ true → Gone cells (cell_at w) r.work s' r.next good a
+  unfolding readings_from held_by
   gone zero i a h e = let z : ◌≡◌ {A = ℕ} 0 1 = cc in absurd (omega arith)
   gone (suc k) i a h e =
-      here (holds (entriesOf (cell_at w) (heightAt w at i) (topAt w at i)) a) refl (λ q. gone k (i + 1) a (omega arith) q)
+      here (holds (entries_of (cell_at w) (height_at w at i) (top_at w at i)) a) refl (λ q. gone k (i + 1) a (omega arith) q)
     where
-      here : (b : Bool) → holds (entriesOf (cell_at w) (heightAt w at i) (topAt w at i)) a ≡ b →
-          (heldBy (readingsFrom w at (i + 1) k) a ≡ true → Gone cells (cell_at w) r.work s' r.next good a) → Gone cells (cell_at w) r.work s' r.next good a
+      here : (b : Bool) → holds (entries_of (cell_at w) (height_at w at i) (top_at w at i)) a ≡ b →
+          (held_by (readings_from w at (i + 1) k) a ≡ true → Gone cells (cell_at w) r.work s' r.next good a) → Gone cells (cell_at w) r.work s' r.next good a
       here true f rest =
-          held-gone cells (cell_at w) r.work s' r.next good (heightAt w at i) (topAt w at i) (topAt s' readingsAt i) a (stands i (omega arith)).stack (found i (omega arith)) f
+          held_gone cells (cell_at w) r.work s' r.next good (height_at w at i) (top_at w at i) (top_at s' readings_at i) a (stands i (omega arith)).stack (found i (omega arith)) f
       here false f rest = rest (rw f at e)
 
   -- Every cell in use is a copy of one that the results hold.
-  source : (c : ℕ) → c < usedOf s' → Source (heldBy (resultsOf w at count)) r.work c
+  source : (c : ℕ) → c < used_of s' → Source (held_by (results_of w at count)) r.work c
   source c h = let u = used in d.fresh c (omega arith) (omega arith)
 
   compact : Compact s'
@@ -179,53 +179,53 @@ module _ (w s : List ℕ) (at count cells : ℕ) (y : Results w s at count cells
             let o = source c h in
             let i = o.is in
             let u : renamed r.work o.from ≡ c = omega arith in
-            rw (same, ← u) (readings-held (renamed r.work) (resultsOf w at count) o.from o.held);
+            rw (same, ← u) (readings_held (renamed r.work) (results_of w at count) o.from o.held);
         lowest = λ c h e.
             let o = source c h in
             let inside = (gone count 0 o.from (omega arith) o.held).inside in
-            good.lowest o.from c inside o.is (sym (moved-height cells (cell_at w) r.work s' r.next good o.from c inside o.is) ∙ e);
+            good.lowest o.from c inside o.is (sym (moved_height cells (cell_at w) r.work s' r.next good o.from c inside o.is) ∙ e);
       }
 
-  committed : Committed (resultsOf w at count) s s'
+  committed : Committed (results_of w at count) s s'
   committed =
-      let n = length-readings w at 0 count in
+      let n = length_readings w at 0 count in
       let few = y.few in
       record {
         rename = renamed r.work;
         same = same;
         apart = λ a b e f q.
-            gone-apart cells (cell_at w) r.work s' r.next good a b (gone count 0 a (omega arith) e) (gone count 0 b (omega arith) f) q;
+            gone_apart cells (cell_at w) r.work s' r.next good a b (gone count 0 a (omega arith) e) (gone count 0 b (omega arith) f) q;
         valid = valid;
         count = counted ∙ sym n;
         compact = compact;
-        cells = λ k h i. let u = used in let b = d.bound in before-counts k (omega arith) (omega arith) ∙ d.rest k (omega arith) (inr (omega arith));
-        slots = λ k h i. let b = d.bound in before-counts k (omega arith) (omega arith) ∙ d.rest k (omega arith) (inl (omega arith));
+        cells = λ k h i. let u = used in let b = d.bound in before_counts k (omega arith) (omega arith) ∙ d.rest k (omega arith) (inr (omega arith));
+        slots = λ k h i. let b = d.bound in before_counts k (omega arith) (omega arith) ∙ d.rest k (omega arith) (inl (omega arith));
       }
 
 -- What the function asks of its callee, and its way out.
-pub ready-first : (w s : List ℕ) (at count cells : ℕ) (w₁ : List ℕ) → w₁ ≡ forgotten w cells → Results w s at count cells → ListReady w₁ s at count 0 0
-ready-first w s at count cells w₁ e y =
+pub ready_first : (w s : List ℕ) (at count cells : ℕ) (w₁ : List ℕ) → w₁ ≡ forgotten w cells → Results w s at count cells → ListReady w₁ s at count 0 0
+ready_first w s at count cells w₁ e y =
     let few = y.few in
     let list = y.list in
     let pool = y.pool in
-    let kept : Agree w₁ w 0 mapAt = rw e (agree-forgotten w cells y.work y.pool) in
+    let kept : Agree w₁ w 0 map_at = rw e (agree_forgotten w cells y.work y.pool) in
     record {
-      work = ap length e ∙ length-forgotten w cells y.work y.pool ∙ y.work;
+      work = ap length e ∙ length_forgotten w cells y.work y.pool ∙ y.work;
       state = y.state;
       room = omega arith;
       few = omega arith;
       list = omega arith;
       stands =
-          all-stand-kept cells w w₁ (λ c h. cell-kept w₁ w kept c (omega arith)) at 0 count (λ j g h. slot_kept w₁ w kept at j (omega arith)) y.stands workCells y.pool;
+          all_stand_kept cells w w₁ (λ c h. cell_kept w₁ w kept c (omega arith)) at 0 count (λ j g h. slot_kept w₁ w kept at j (omega arith)) y.stands work_cells y.pool;
     }
 
 pub commits : (w s : List ℕ) (at count cells : ℕ) (w₁ w₂ s₂ s₃ s₄ : List ℕ) (n : ℕ) → Results w s at count cells → w₁ ≡ forgotten w cells →
-    move w₂ s₂ n 0 ≡ commitFrom at count w₁ s 0 0 → s₃ ≡ putU16 s₂ countAt count → s₄ ≡ putU16 s₃ usedAt n → Commits w s at count cells w₂ s₄
-unfolding commitOf r s'
+    move w₂ s₂ n 0 ≡ commit_from at count w₁ s 0 0 → s₃ ≡ put_u16 s₂ count_at count → s₄ ≡ put_u16 s₃ used_at n → Commits w s at count cells w₂ s₄
+unfolding commit_of r s'
 commits w s at count cells w₁ w₂ s₂ s₃ s₄ n y a e b c =
-    let f : move w₂ s₂ n 0 ≡ commitFrom at count (forgotten w cells) s 0 0 = rw a at e in
-    let out : s₄ ≡ putU16 (putU16 (commitFrom at count (forgotten w cells) s 0 0).state countAt count) usedAt (commitFrom at count (forgotten w cells) s 0 0).next =
-    c ∙ rw b refl ∙ ap (λ (q : Move). putU16 (putU16 q.state countAt count) usedAt q.next) f in
+    let f : move w₂ s₂ n 0 ≡ commit_from at count (forgotten w cells) s 0 0 = rw a at e in
+    let out : s₄ ≡ put_u16 (put_u16 (commit_from at count (forgotten w cells) s 0 0).state count_at count) used_at (commit_from at count (forgotten w cells) s 0 0).next =
+    c ∙ rw b refl ∙ ap (λ (q : Move). put_u16 (put_u16 q.state count_at count) used_at q.next) f in
     record {
       work = ap (λ (q : Move). q.work) f;
       state = out;

@@ -1,8 +1,8 @@
 // The end of a feed: the results' stacks move from the work area's pool to the state's, bottom first, and become the state's readings.
 ghost use Rattle.std.specs.Prelude.{◌≡◌, ◌<◌, ◌≤◌, length};
-ghost use Rattle.state.specs.Layout.{workCells, workLength};
-ghost use Rattle.commit.specs.Moving.{moved_to, putMoved, forgotten, withParent, move, moveStep, moveStack, CellReady, MoveReady};
-ghost use Rattle.commit.specs.Committing.{commitOne, commitFrom, OneReady, ListReady, Results, Commits};
+ghost use Rattle.state.specs.Layout.{work_cells, work_len};
+ghost use Rattle.commit.specs.Moving.{moved_to, put_moved, forgotten, with_parent, move, move_step, move_stack, CellReady, MoveReady};
+ghost use Rattle.commit.specs.Committing.{commit_one, commit_from, OneReady, ListReady, Results, Commits};
 
 use cells::Cell;
 use meaning::CellNo;
@@ -17,22 +17,22 @@ struct Moved {
 
 // Where a cell has gone: k + 1 for the cell k, 0 for nowhere yet.
 fn moved_to(work: &[u8], c: CellNo) -> u16
-    requires { (length work.now ≡ workLength) × (c.0 < workCells) }
+    requires { (length work.now ≡ work_len) × (c.0 < work_cells) }
     ensures { result ≡ moved_to work.now c.0 }
 {
     numbers::get16(work, state::MAP_AT + 2 * (c.0 as usize))
 }
 
 fn put_moved(work: &mut [u8], c: CellNo, to: u16)
-    requires { (length work.old ≡ workLength) × (c.0 < workCells) }
-    ensures { work.new ≡ putMoved work.old c.0 to }
+    requires { (length work.old ≡ work_len) × (c.0 < work_cells) }
+    ensures { work.new ≡ put_moved work.old c.0 to }
 {
     numbers::put16(&mut *work, state::MAP_AT + 2 * (c.0 as usize), to);
 }
 
 // No cell below `cells` has gone anywhere.
 fn forget_moves(work: &mut [u8], cells: u16)
-    requires { (length work.old ≡ workLength) × (cells ≤ workCells) }
+    requires { (length work.old ≡ work_len) × (cells ≤ work_cells) }
     ensures { work.new ≡ forgotten work.old cells }
 {
     let start = state::MAP_AT;
@@ -41,7 +41,7 @@ fn forget_moves(work: &mut [u8], cells: u16)
 }
 
 fn with_parent(x: Cell, parent: CellNo) -> Cell
-    ensures { result ≡ withParent x parent.0 }
+    ensures { result ≡ with_parent x parent.0 }
 {
     let state = x.state;
     Cell {
@@ -57,7 +57,7 @@ fn with_parent(x: Cell, parent: CellNo) -> Cell
 // The stack below has moved, to `under`; now the cell c, which holds x. A cell moves once, so what was shared stays shared.
 fn move_cell(work: &mut [u8], state: &mut [u8], x: Cell, c: CellNo, under: Moved) -> Moved
     requires { CellReady work.old state.old c.0 under.next }
-    ensures { move work.new state.new result.next result.no.0 ≡ moveStep x c.0 (move work.old state.old under.next under.no.0) }
+    ensures { move work.new state.new result.next result.no.0 ≡ move_step x c.0 (move work.old state.old under.next under.no.0) }
 {
     let to = moved_to(work, c);
     let n = under.next;
@@ -78,7 +78,7 @@ fn move_cell(work: &mut [u8], state: &mut [u8], x: Cell, c: CellNo, under: Moved
 // The stack of this height at this top, to cells from `next` on.
 fn move_stack(work: &mut [u8], state: &mut [u8], height: u16, top: CellNo, next: u16) -> Moved
     requires { MoveReady work.old state.old height top.0 next }
-    ensures { move work.new state.new result.next result.no.0 ≡ moveStack height work.old state.old next top.0 }
+    ensures { move work.new state.new result.next result.no.0 ≡ move_stack height work.old state.old next top.0 }
 {
     if height == 0 {
         return Moved {
@@ -94,7 +94,7 @@ fn move_stack(work: &mut [u8], state: &mut [u8], height: u16, top: CellNo, next:
 // The result i becomes the reading i.
 fn commit_one(work: &mut [u8], state: &mut [u8], at: usize, i: u16, next: u16) -> u16
     requires { OneReady work.old state.old at i next }
-    ensures { move work.new state.new result 0 ≡ commitOne at work.old state.old i next }
+    ensures { move work.new state.new result 0 ≡ commit_one at work.old state.old i next }
 {
     let slot = state::get_slot(work, at, i);
     let x = cells::get_cell(work, slot.top);
@@ -115,7 +115,7 @@ fn commit_one(work: &mut [u8], state: &mut [u8], at: usize, i: u16, next: u16) -
 // `left` results, from the result i on.
 fn commit_from(work: &mut [u8], state: &mut [u8], at: usize, left: u16, i: u16, next: u16) -> u16
     requires { ListReady work.old state.old at left i next }
-    ensures { move work.new state.new result 0 ≡ commitFrom at left work.old state.old i next }
+    ensures { move work.new state.new result 0 ≡ commit_from at left work.old state.old i next }
 {
     if left == 0 {
         return next;

@@ -12,7 +12,7 @@ use borrow.Author.Tests.{le-leb, ne_eqb, eq-eqb, eqb-true, eqb-false, lt-ltb, le
 use Rattle.meaning.specs.Basics.{if◌then◌else◌, both, every}
 use Rattle.meaning.proofs.Booleans.{both_left, both_right, both_true}
 use Rattle.console.specs.Text.{first_of}
-use Rattle.console.specs.Input.{lineRoom, Fetched, Taken, PutIs, withoutReturn, endedLine, endedInput, AtFeed, AtEnd, LineIs}
+use Rattle.console.specs.Input.{line_room, Fetched, Taken, PutIs, without_return, ended_line, ended_input, AtFeed, AtEnd, LineIs}
 use Rattle.console.specs.declared.lines.Rest.{Rest}
 use Rattle.console.specs.declared.lines.Byte.{Byte}
 use Rattle.console.specs.declared.lines.Byte.TheVariants as byte
@@ -24,22 +24,22 @@ abbrev is_plain : ℕ → Bool
 is_plain b = not (eqb b 10)
 
 -- The turns of the loop.
-abbrev pub allTurns : ℕ
-allTurns = 18446744073709551615
+abbrev pub all_turns : ℕ
+all_turns = 18446744073709551615
 
 -- So far: these bytes, none of them a line feed, were taken in; the line has them, and they are counted.
 pub record Filling (piece₀ : List ℕ) (rest₀ : Rest) (line₀ piece : List ℕ) (rest : Rest) (line : List ℕ) (n turns : ℕ) : Type 0 where
   pub bytes : List ℕ
-  pub no-feed : every is_plain bytes ≡ true
+  pub no_feed : every is_plain bytes ≡ true
   pub taken : Taken piece₀ rest₀ bytes piece rest
-  pub holds : line ≡ sets line₀ 0 (take lineRoom bytes)
-  pub short : length bytes ≤ lineRoom → n ≡ length bytes
-  pub long : lineRoom < length bytes → n ≡ lineRoom + 1
-  pub left : length bytes + turns ≡ allTurns
+  pub holds : line ≡ sets line₀ 0 (take line_room bytes)
+  pub short : length bytes ≤ line_room → n ≡ length bytes
+  pub long : line_room < length bytes → n ≡ line_room + 1
+  pub left : length bytes + turns ≡ all_turns
 
-pub filling-begins : (piece : List ℕ) (rest : Rest) (line : List ℕ) → Filling piece rest line piece rest line 0 allTurns
+pub filling_begins : (piece : List ℕ) (rest : Rest) (line : List ℕ) → Filling piece rest line piece rest line 0 all_turns
 unfolding Taken
-filling-begins piece rest line = record { bytes = []; no-feed = refl; taken = (refl, refl); holds = refl; short = λ h. refl; long = λ h. absurd (omega arith); left = refl }
+filling_begins piece rest line = record { bytes = []; no_feed = refl; taken = (refl, refl); holds = refl; short = λ h. refl; long = λ h. absurd (omega arith); left = refl }
 
 -- One byte more.
 taken_more : (piece : List ℕ) (rest : Rest) (bytes p : List ℕ) (r : Rest) (b : ℕ) (p' : List ℕ) (r' : Rest) →
@@ -74,87 +74,87 @@ module _ (piece₀ : List ℕ) (rest₀ : Rest) (line₀ piece : List ℕ) (rest
   abbrev m : ℕ
   m = length f.bytes
 
-  counted-past : lineRoom ≤ m → lineRoom ≤ n
-  counted-past l = by (ltb lineRoom m) refl
+  counted_past : line_room ≤ m → line_room ≤ n
+  counted_past l = by (ltb line_room m) refl
     where
-      by : (t : Bool) → ltb lineRoom m ≡ t → lineRoom ≤ n
-      by true e = let q = f.long (ltb-true lineRoom m e) in omega arith
-      by false e = let q = f.short (ltb-false lineRoom m e) in omega arith
+      by : (t : Bool) → ltb line_room m ≡ t → line_room ≤ n
+      by true e = let q = f.long (ltb-true line_room m e) in omega arith
+      by false e = let q = f.short (ltb-false line_room m e) in omega arith
 
   -- what the line ends as is what its bytes end as
-  last_byte : length line ≡ lineRoom → m ≤ lineRoom → 0 < m → get_or line (m - 1) 0 ≡ get_or f.bytes (m - 1) 0
+  last_byte : length line ≡ line_room → m ≤ line_room → 0 < m → get_or line (m - 1) 0 ≡ get_or f.bytes (m - 1) 0
   last_byte l s z =
-      let all : take lineRoom f.bytes ≡ f.bytes = take_all lineRoom f.bytes s in
-      let long : length line₀ ≡ length line = sym (length-sets line₀ 0 (take lineRoom f.bytes)) ∙ ap length (sym f.holds) in
+      let all : take line_room f.bytes ≡ f.bytes = take_all line_room f.bytes s in
+      let long : length line₀ ≡ length line = sym (length-sets line₀ 0 (take line_room f.bytes)) ∙ ap length (sym f.holds) in
       let is : line ≡ f.bytes ++ drop (0 + m) line₀ = f.holds ∙ ap (sets line₀ 0) all ∙ sets-eq f.bytes line₀ 0 (omega arith) in
       ap (λ (x : List ℕ). get_or x (m - 1) 0) is ∙ get_or-append f.bytes (drop (0 + m) line₀) 0 (m - 1) (omega arith)
 
-  same-cut : length line ≡ lineRoom → m ≤ lineRoom → withoutReturn line m ≡ withoutReturn f.bytes m
-  unfolding withoutReturn
-  same-cut l s = at (ltb 0 m) refl
+  same_cut : length line ≡ line_room → m ≤ line_room → without_return line m ≡ without_return f.bytes m
+  unfolding without_return
+  same_cut l s = at (ltb 0 m) refl
     where
       at : (t : Bool) → ltb 0 m ≡ t → (if both t (eqb (get_or line (m - 1) 0) 13) then m - 1 else m) ≡ (if both t (eqb (get_or f.bytes (m - 1) 0) 13) then m - 1 else m)
       at true e = ap (λ (x : ℕ). if eqb x 13 then m - 1 else m) (last_byte l s (ltb-true 0 m e))
       at false e = refl
 
-  same_line : length line ≡ lineRoom → (rest' : Rest) → endedLine line n rest' ≡ endedLine f.bytes m rest'
-  unfolding endedLine
-  same_line l rest' = at (ltb lineRoom m) refl
+  same_line : length line ≡ line_room → (rest' : Rest) → ended_line line n rest' ≡ ended_line f.bytes m rest'
+  unfolding ended_line
+  same_line l rest' = at (ltb line_room m) refl
     where
-      at : (t : Bool) → ltb lineRoom m ≡ t → endedLine line n rest' ≡ endedLine f.bytes m rest'
+      at : (t : Bool) → ltb line_room m ≡ t → ended_line line n rest' ≡ ended_line f.bytes m rest'
       at true e =
-          let q = f.long (ltb-true lineRoom m e) in
-          let k : lineRoom < n = omega arith in
+          let q = f.long (ltb-true line_room m e) in
+          let k : line_room < n = omega arith in
           rw (lt-ltb 131100 n k, e)
       at false e =
-          let s = ltb-false lineRoom m e in
+          let s = ltb-false line_room m e in
           let q = f.short s in
-          ap (λ (k : ℕ). endedLine line k rest') q ∙ rw (e) (ap (λ (k : ℕ). next.Line k rest') (same-cut l s))
+          ap (λ (k : ℕ). ended_line line k rest') q ∙ rw (e) (ap (λ (k : ℕ). next.Line k rest') (same_cut l s))
 
-  line-more : (b n' : ℕ) (line' : List ℕ) → PutIs line n b n' line' → line' ≡ sets line₀ 0 (take lineRoom (f.bytes ++ b ∷ []))
-  line-more b n' line' p = at (ltb m lineRoom) refl
+  line_more : (b n' : ℕ) (line' : List ℕ) → PutIs line n b n' line' → line' ≡ sets line₀ 0 (take line_room (f.bytes ++ b ∷ []))
+  line_more b n' line' p = at (ltb m line_room) refl
     where
-      at : (t : Bool) → ltb m lineRoom ≡ t → line' ≡ sets line₀ 0 (take lineRoom (f.bytes ++ b ∷ []))
+      at : (t : Bool) → ltb m line_room ≡ t → line' ≡ sets line₀ 0 (take line_room (f.bytes ++ b ∷ []))
       at true e =
-          let l : m < lineRoom = ltb-true m lineRoom e in
+          let l : m < line_room = ltb-true m line_room e in
           let s = f.short (omega arith) in
           let q : n ≡ 0 + m = omega arith in
-          let k : n < lineRoom = omega arith in
+          let k : n < line_room = omega arith in
           let j = length-append f.bytes (b ∷ []) in
           let here : line' ≡ set line n b = p.bytes ∙ rw (lt-ltb n 131100 k) in
-          let all : take lineRoom f.bytes ≡ f.bytes = take_all lineRoom f.bytes (omega arith) in
-          let more : take lineRoom (f.bytes ++ b ∷ []) ≡ f.bytes ++ b ∷ [] = take_all lineRoom (f.bytes ++ b ∷ []) (omega arith) in
+          let all : take line_room f.bytes ≡ f.bytes = take_all line_room f.bytes (omega arith) in
+          let more : take line_room (f.bytes ++ b ∷ []) ≡ f.bytes ++ b ∷ [] = take_all line_room (f.bytes ++ b ∷ []) (omega arith) in
           here ∙ ap (λ (x : List ℕ). set x n b) (f.holds ∙ ap (sets line₀ 0) all) ∙ ap (λ (k : ℕ). set (sets line₀ 0 f.bytes) k b) q ∙ sym (sets_more line₀ 0 f.bytes b) ∙ ap (sets line₀ 0) (sym more)
       at false e =
-          let l : lineRoom ≤ m = ltb-false m lineRoom e in
-          let k : lineRoom ≤ n = counted-past l in
+          let l : line_room ≤ m = ltb-false m line_room e in
+          let k : line_room ≤ n = counted_past l in
           let here : line' ≡ line = p.bytes ∙ rw (le-ltb n 131100 k) in
-          here ∙ f.holds ∙ ap (sets line₀ 0) (sym (take-append-le lineRoom f.bytes (b ∷ []) l))
+          here ∙ f.holds ∙ ap (sets line₀ 0) (sym (take-append-le line_room f.bytes (b ∷ []) l))
 
   -- the next turn
   module _ (q : Byte) (piece' : List ℕ) (g : Fetched piece rest q piece') (b : ℕ) (rest' : Rest) (e : q ≡ byte.Is b rest') where
     fetched : Fetched piece rest (byte.Is b rest') piece'
     fetched = subst (λ (x : Byte). Fetched piece rest x piece') e g
 
-    pub filling-on : (b ≡ 10 → ⊥) → 0 < turns → (n' : ℕ) (line' : List ℕ) → PutIs line n b n' line' → Filling piece₀ rest₀ line₀ piece' rest' line' n' (turns - 1)
-    filling-on d z n' line' p =
+    pub filling_on : (b ≡ 10 → ⊥) → 0 < turns → (n' : ℕ) (line' : List ℕ) → PutIs line n b n' line' → Filling piece₀ rest₀ line₀ piece' rest' line' n' (turns - 1)
+    filling_on d z n' line' p =
         let j = length-append f.bytes (b ∷ []) in
         let left = f.left in
         record {
           bytes = f.bytes ++ b ∷ [];
-          no-feed = plain_more f.bytes b f.no-feed (rw (ne_eqb b 10 d));
+          no_feed = plain_more f.bytes b f.no_feed (rw (ne_eqb b 10 d));
           taken = taken_more piece₀ rest₀ f.bytes piece rest b piece' rest' f.taken fetched;
-          holds = line-more b n' line' p;
-          short = λ h. (let s = f.short (omega arith) in let k : n < lineRoom = omega arith in let c : n' ≡ n + 1 = p.counts ∙ rw (lt-ltb n 131100 k) in omega arith);
-          long = λ h. (let k = counted-past (omega arith) in p.counts ∙ rw (le-ltb n 131100 k));
+          holds = line_more b n' line' p;
+          short = λ h. (let s = f.short (omega arith) in let k : n < line_room = omega arith in let c : n' ≡ n + 1 = p.counts ∙ rw (lt-ltb n 131100 k) in omega arith);
+          long = λ h. (let k = counted_past (omega arith) in p.counts ∙ rw (le-ltb n 131100 k));
           left = omega arith;
         }
 
     -- the line feed
-    pub ends-at-feed : b ≡ 10 → length line ≡ lineRoom → (r : Next) → r ≡ endedLine line n rest' → LineIs piece₀ rest₀ line₀ r piece' line
-    ends-at-feed d l r s = record {
+    pub ends_at_feed : b ≡ 10 → length line ≡ line_room → (r : Next) → r ≡ ended_line line n rest' → LineIs piece₀ rest₀ line₀ r piece' line
+    ends_at_feed d l r s = record {
       bytes = f.bytes;
-      no-feed = f.no-feed;
+      no_feed = f.no_feed;
       holds = f.holds;
       ends = inl (record {
         rest' = rest';
@@ -165,40 +165,40 @@ module _ (piece₀ : List ℕ) (rest₀ : Rest) (line₀ piece : List ℕ) (rest
 
   -- the end of the input
   some : (m ≡ 0 → ⊥) → n ≡ 0 → ⊥
-  some d z = by (ltb lineRoom m) refl
+  some d z = by (ltb line_room m) refl
     where
-      by : (t : Bool) → ltb lineRoom m ≡ t → ⊥
-      by true e = let q = f.long (ltb-true lineRoom m e) in omega arith
-      by false e = let q = f.short (ltb-false lineRoom m e) in d (omega arith)
+      by : (t : Bool) → ltb line_room m ≡ t → ⊥
+      by true e = let q = f.long (ltb-true line_room m e) in omega arith
+      by false e = let q = f.short (ltb-false line_room m e) in d (omega arith)
 
-  same-input : length line ≡ lineRoom → endedInput line n rest ≡ endedInput f.bytes m rest
-  unfolding endedInput
-  same-input l = at (eqb m 0) refl
+  same_input : length line ≡ line_room → ended_input line n rest ≡ ended_input f.bytes m rest
+  unfolding ended_input
+  same_input l = at (eqb m 0) refl
     where
-      at : (t : Bool) → eqb m 0 ≡ t → endedInput line n rest ≡ endedInput f.bytes m rest
+      at : (t : Bool) → eqb m 0 ≡ t → ended_input line n rest ≡ ended_input f.bytes m rest
       at true e =
           let z = eqb-true m 0 e in
           let s = f.short (omega arith) in
           rw (eq-eqb n 0 (let u : n ≡ 0 = omega arith in u), e)
       at false e = rw (ne_eqb n 0 (some (eqb-false m 0 e)), e) (same_line l rest)
 
-  pub ends-at-end : (q : Byte) (piece' : List ℕ) → Fetched piece rest q piece' → q ≡ byte.End → length line ≡ lineRoom → (r : Next) → r ≡ endedInput line n rest → LineIs piece₀ rest₀ line₀ r piece' line
-  ends-at-end q piece' g e l r s = record {
+  pub ends_at_end : (q : Byte) (piece' : List ℕ) → Fetched piece rest q piece' → q ≡ byte.End → length line ≡ line_room → (r : Next) → r ≡ ended_input line n rest → LineIs piece₀ rest₀ line₀ r piece' line
+  ends_at_end q piece' g e l r s = record {
     bytes = f.bytes;
-    no-feed = f.no-feed;
+    no_feed = f.no_feed;
     holds = f.holds;
     ends = inr (inl (record {
       last = piece;
       rest' = rest;
       taken = f.taken;
       over = subst (λ (x : Byte). Fetched piece rest x piece') e g;
-      is = s ∙ same-input l;
+      is = s ∙ same_input l;
     }));
   }
 
   -- no turn is left
-  pub ends-late : turns ≤ 0 → LineIs piece₀ rest₀ line₀ next.End piece line
-  ends-late z = let left = f.left in record { bytes = f.bytes; no-feed = f.no-feed; holds = f.holds; ends = inr (inr (omega arith, refl)) }
+  pub ends_late : turns ≤ 0 → LineIs piece₀ rest₀ line₀ next.End piece line
+  ends_late z = let left = f.left in record { bytes = f.bytes; no_feed = f.no_feed; holds = f.holds; ends = inr (inr (omega arith, refl)) }
 
 -- What is given as a line is the bytes up to the line feed or the end of the input, without a carriage return at their end.
 abbrev length_of : Next → ℕ
@@ -207,54 +207,54 @@ length_of (next.TooLong rest) = 0
 length_of next.End = 0
 
 abbrev IsLine : (bytes : List ℕ) (n : ℕ) → Type 0
-IsLine bytes n = (n ≡ withoutReturn bytes (length bytes)) × (length bytes ≤ lineRoom)
+IsLine bytes n = (n ≡ without_return bytes (length bytes)) × (length bytes ≤ line_room)
 
 module _ (bytes : List ℕ) (rest rest' : Rest) (n : ℕ) where
-  ended-line : next.Line n rest ≡ endedLine bytes (length bytes) rest' → IsLine bytes n
-  unfolding endedLine
-  ended-line e = at (ltb lineRoom (length bytes)) refl
+  ended_line_lem : next.Line n rest ≡ ended_line bytes (length bytes) rest' → IsLine bytes n
+  unfolding ended_line
+  ended_line_lem e = at (ltb line_room (length bytes)) refl
     where
-      at : (t : Bool) → ltb lineRoom (length bytes) ≡ t → IsLine bytes n
+      at : (t : Bool) → ltb line_room (length bytes) ≡ t → IsLine bytes n
       at true h = let g : next.Line n rest ≡ next.TooLong rest' = rw h at e in let z : n + 1 ≡ 0 = ap length_of g in absurd (omega arith)
       at false h =
-          let g : next.Line n rest ≡ next.Line (withoutReturn bytes (length bytes)) rest' = rw h at e in
-          let z : n + 1 ≡ withoutReturn bytes (length bytes) + 1 = ap length_of g in
-          (omega arith, ltb-false lineRoom (length bytes) h)
+          let g : next.Line n rest ≡ next.Line (without_return bytes (length bytes)) rest' = rw h at e in
+          let z : n + 1 ≡ without_return bytes (length bytes) + 1 = ap length_of g in
+          (omega arith, ltb-false line_room (length bytes) h)
 
-  ended-input : next.Line n rest ≡ endedInput bytes (length bytes) rest' → IsLine bytes n
-  unfolding endedInput
-  ended-input e = at (eqb (length bytes) 0) refl
+  ended_input_lem : next.Line n rest ≡ ended_input bytes (length bytes) rest' → IsLine bytes n
+  unfolding ended_input
+  ended_input_lem e = at (eqb (length bytes) 0) refl
     where
       at : (t : Bool) → eqb (length bytes) 0 ≡ t → IsLine bytes n
       at true h = let g : next.Line n rest ≡ next.End = rw h at e in let z : n + 1 ≡ 0 = ap length_of g in absurd (omega arith)
-      at false h = ended-line (rw h at e)
+      at false h = ended_line_lem (rw h at e)
 
-cut-shorter : (bytes : List ℕ) (n : ℕ) → withoutReturn bytes n ≤ n
-unfolding withoutReturn
-cut-shorter bytes n = at (both (ltb 0 n) (eqb (get_or bytes (n - 1) 0) 13))
+cut_shorter : (bytes : List ℕ) (n : ℕ) → without_return bytes n ≤ n
+unfolding without_return
+cut_shorter bytes n = at (both (ltb 0 n) (eqb (get_or bytes (n - 1) 0) 13))
   where
     at : (t : Bool) → (if t then n - 1 else n) ≤ n
     at true = omega arith
     at false = omega arith
 
-module _ (piece : List ℕ) (rest : Rest) (line : List ℕ) (r : Next) (piece' line' : List ℕ) (g : LineIs piece rest line r piece' line') (l : length line ≡ lineRoom) where
+module _ (piece : List ℕ) (rest : Rest) (line : List ℕ) (r : Next) (piece' line' : List ℕ) (g : LineIs piece rest line r piece' line') (l : length line ≡ line_room) where
   abbrev k : ℕ
   k = length g.bytes
 
-  pub line-given : (n : ℕ) (rest' : Rest) → r ≡ next.Line n rest' → first_of line' n ≡ take (withoutReturn g.bytes k) g.bytes
+  pub line_given : (n : ℕ) (rest' : Rest) → r ≡ next.Line n rest' → first_of line' n ≡ take (without_return g.bytes k) g.bytes
   unfolding first_of
-  line-given n rest' e = by (is g.ends)
+  line_given n rest' e = by (is g.ends)
     where
-      is : AtFeed piece rest g.bytes r piece' ⊎ (AtEnd piece rest g.bytes r piece' ⊎ ((k ≡ allTurns) × (r ≡ next.End))) → IsLine g.bytes n
-      is (inl a) = ended-line g.bytes rest' a.rest' n (sym e ∙ a.is)
-      is (inr (inl a)) = ended-input g.bytes rest' a.rest' n (sym e ∙ a.is)
+      is : AtFeed piece rest g.bytes r piece' ⊎ (AtEnd piece rest g.bytes r piece' ⊎ ((k ≡ all_turns) × (r ≡ next.End))) → IsLine g.bytes n
+      is (inl a) = ended_line_lem g.bytes rest' a.rest' n (sym e ∙ a.is)
+      is (inr (inl a)) = ended_input_lem g.bytes rest' a.rest' n (sym e ∙ a.is)
       is (inr (inr a)) = let z : n + 1 ≡ 0 = ap length_of (sym e ∙ a.1) in absurd (omega arith)
 
-      by : IsLine g.bytes n → first_of line' n ≡ take (withoutReturn g.bytes k) g.bytes
+      by : IsLine g.bytes n → first_of line' n ≡ take (without_return g.bytes k) g.bytes
       by (m, s) =
-          let c = cut-shorter g.bytes k in
-          let all : take lineRoom g.bytes ≡ g.bytes = take_all lineRoom g.bytes s in
+          let c = cut_shorter g.bytes k in
+          let all : take line_room g.bytes ≡ g.bytes = take_all line_room g.bytes s in
           let is : line' ≡ g.bytes ++ drop (0 + k) line = g.holds ∙ ap (sets line 0) all ∙ sets-eq g.bytes line 0 (omega arith) in
-          let long : length line' ≡ length line = ap length g.holds ∙ length-sets line 0 (take lineRoom g.bytes) in
+          let long : length line' ≡ length line = ap length g.holds ∙ length-sets line 0 (take line_room g.bytes) in
           let h : n ≤ length line' = omega arith in
           rw (le-leb n (length line') h) (ap (take n) is ∙ take-append-le n g.bytes (drop (0 + k) line) (omega arith) ∙ ap (λ (j : ℕ). take j g.bytes) m)

@@ -9,79 +9,79 @@ use lib.ListN.{length}
 use borrow.Author.Tests.{eq-eqb, ne_eqb, ltb-true, ltb-false, lt-ltb, le-ltb, leb-true, leb-false}
 use Rattle.meaning.specs.Answers.{number, stackNumbers}
 use Rattle.meaning.specs.Basics.{if◌then◌else◌, nothing, just}
-use Rattle.meaning.specs.Calls.{State, checkState, StackCall, stackRefused, stackRight, stackCall}
-use Rattle.meaning.specs.TableRight.{tableOk}
+use Rattle.meaning.specs.Calls.{State, check_state, StackCall, stack_refused, stack_right, stack_call}
+use Rattle.meaning.specs.TableRight.{table_ok}
 use Rattle.meaning.specs.declared.Refusal.{Refusal}
 use Rattle.meaning.specs.declared.Refusal.TheVariants.{WrongTable}
 use Rattle.meaning.specs.declared.StackAnswer.{StackAnswer}
 use Rattle.meaning.specs.declared.StackAnswer.TheVariants.{Read, Refused}
 use Rattle.meaning.specs.declared.StackNumbers.{StackNumbers}
-use Rattle.meaning.proofs.Booleans.{not-no, not_yes}
-use Rattle.meaning.proofs.Settled.{number-range}
-use Rattle.state.specs.Layout.{stateLength}
-use Rattle.promises.specs.Buffers.{listsRight, stateFor}
-use Rattle.promises.specs.Calls.{stackOn}
-use Rattle.promises.proofs.Buffers.{found-holds}
-use Rattle.by_value.specs.Reading.{noEntries, ReadPromise}
+use Rattle.meaning.proofs.Booleans.{not_no, not_yes}
+use Rattle.meaning.proofs.Settled.{number_range}
+use Rattle.state.specs.Layout.{state_len}
+use Rattle.promises.specs.Buffers.{lists_right, state_for}
+use Rattle.promises.specs.Calls.{stack_on}
+use Rattle.promises.proofs.Buffers.{found_holds}
+use Rattle.by_value.specs.Reading.{no_entries, ReadPromise}
 use Rattle.by_value.specs.declared.reading.StackRead.{StackRead}
-use Rattle.console.specs.Tracing.{readingsLeft}
+use Rattle.console.specs.Tracing.{readings_left}
 
 -- By what the checks find: how many readings there are, and what reading one out answers.
-abbrev leftIf : (ok : Bool) → State → ℕ
-leftIf ok s = if not ok then 0 else checkState s (λ k. 0) (λ rs. length rs)
+abbrev left_if : (ok : Bool) → State → ℕ
+left_if ok s = if not ok then 0 else check_state s (λ k. 0) (λ rs. length rs)
 
-abbrev readIf : (ok : Bool) → State → (i : ℕ) → StackCall
-readIf ok s i = if not ok then stackRefused noEntries.list WrongTable else checkState s (stackRefused noEntries.list) (λ rs. stackRight rs i noEntries.list)
+abbrev read_if : (ok : Bool) → State → (i : ℕ) → StackCall
+read_if ok s i = if not ok then stack_refused no_entries.list WrongTable else check_state s (stack_refused no_entries.list) (λ rs. stack_right rs i no_entries.list)
 
 -- a reading is there exactly where reading it out answers 0
-answers-there : (ok : Bool) (s : State) (i : ℕ) → eqb (readIf ok s i).says.answer 0 ≡ ltb i (leftIf ok s)
-unfolding stackRight
-answers-there false s i = sym (le-ltb i 0 (omega arith))
-answers-there true nothing i = sym (le-ltb i 0 (omega arith))
-answers-there true (just []) i = sym (le-ltb i 0 (omega arith))
-answers-there true (just (r ∷ rs)) i = at (leb (length (r ∷ rs)) i) refl
+answers_there : (ok : Bool) (s : State) (i : ℕ) → eqb (read_if ok s i).says.answer 0 ≡ ltb i (left_if ok s)
+unfolding stack_right
+answers_there false s i = sym (le-ltb i 0 (omega arith))
+answers_there true nothing i = sym (le-ltb i 0 (omega arith))
+answers_there true (just []) i = sym (le-ltb i 0 (omega arith))
+answers_there true (just (r ∷ rs)) i = at (leb (length (r ∷ rs)) i) refl
   where
-    at : (b : Bool) → leb (length (r ∷ rs)) i ≡ b → eqb (stackRight (r ∷ rs) i noEntries.list).says.answer 0 ≡ ltb i (length (r ∷ rs))
+    at : (b : Bool) → leb (length (r ∷ rs)) i ≡ b → eqb (stack_right (r ∷ rs) i no_entries.list).says.answer 0 ≡ ltb i (length (r ∷ rs))
     at true e = rw (e, le-ltb i (length (r ∷ rs)) (leb-true (length (r ∷ rs)) i e))
     at false e = rw (e, lt-ltb i (length (r ∷ rs)) (leb-false (length (r ∷ rs)) i e))
 
-module _ (table state : List ℕ) (long : length state ≡ stateLength) (i : ℕ) (r : StackRead) (p : ReadPromise (stackOn (listsRight state 64) table state i) r) where
-  right : listsRight state 64 ≡ true
-  unfolding listsRight
+module _ (table state : List ℕ) (long : length state ≡ state_len) (i : ℕ) (r : StackRead) (p : ReadPromise (stack_on (lists_right state 64) table state i) r) where
+  right : lists_right state 64 ≡ true
+  unfolding lists_right
   right = rw (eq-eqb (length state) 18532 long)
 
-  told : eqb (stackNumbers r.answer).answer 0 ≡ ltb i (readingsLeft table state)
-  unfolding readingsLeft stackCall
+  told : eqb (stackNumbers r.answer).answer 0 ≡ ltb i (readings_left table state)
+  unfolding readings_left stack_call
   told =
-      ap (λ (n : StackNumbers). eqb n.answer 0) (p.answers ∙ ap (λ (b : Bool). (stackOn b table state i noEntries.list).says) right)
-      ∙ answers-there (tableOk table) (stateFor table state) i
+      ap (λ (n : StackNumbers). eqb n.answer 0) (p.answers ∙ ap (λ (b : Bool). (stack_on b table state i no_entries.list).says) right)
+      ∙ answers_there (table_ok table) (state_for table state) i
 
-  pub reading-there : (height mark : ℕ) → r.answer ≡ Read height mark → true ≡ ltb i (readingsLeft table state)
-  reading-there height mark e = sym (ap (λ (q : StackAnswer). eqb (stackNumbers q).answer 0) e) ∙ told
+  pub reading_there : (height mark : ℕ) → r.answer ≡ Read height mark → true ≡ ltb i (readings_left table state)
+  reading_there height mark e = sym (ap (λ (q : StackAnswer). eqb (stackNumbers q).answer 0) e) ∙ told
 
-  pub no-reading : (k : Refusal) → r.answer ≡ Refused k → false ≡ ltb i (readingsLeft table state)
-  no-reading k e = sym (ap (λ (q : StackAnswer). eqb (stackNumbers q).answer 0) e ∙ none k) ∙ told
+  pub no_reading_lem : (k : Refusal) → r.answer ≡ Refused k → false ≡ ltb i (readings_left table state)
+  no_reading_lem k e = sym (ap (λ (q : StackAnswer). eqb (stackNumbers q).answer 0) e ∙ none k) ∙ told
     where
       none : (j : Refusal) → eqb (number j) 0 ≡ false
-      none j = let l = (number-range j).0 in ne_eqb (number j) 0 (λ z. omega arith)
+      none j = let l = (number_range j).0 in ne_eqb (number j) 0 (λ z. omega arith)
 
 -- There are never more than 16.
-pub few-left : (table state : List ℕ) → readingsLeft table state ≤ 16
-unfolding readingsLeft
-few-left table state = at (tableOk table) (stateFor table state) refl
+pub few_left : (table state : List ℕ) → readings_left table state ≤ 16
+unfolding readings_left
+few_left table state = at (table_ok table) (state_for table state) refl
   where
-    at : (ok : Bool) (s : State) → stateFor table state ≡ s → leftIf ok s ≤ 16
+    at : (ok : Bool) (s : State) → state_for table state ≡ s → left_if ok s ≤ 16
     at false s e = omega arith
     at true nothing e = omega arith
-    at true (just rs) e = (found-holds table state rs e).facts.few
+    at true (just rs) e = (found_holds table state rs e).facts.few
 
 -- The count so far: the readings below it are there; the first that is not ends it.
 module _ (left i : ℕ) (h : i ≤ left) (b : Bool) (e : b ≡ ltb i left) where
-  pub counted-on : not b ≡ false → i + 1 ≤ left
-  counted-on f = let l = ltb-true i left (sym e ∙ not-no b f) in omega arith
+  pub counted_on : not b ≡ false → i + 1 ≤ left
+  counted_on f = let l = ltb-true i left (sym e ∙ not_no b f) in omega arith
 
-  pub counted-all : not b ≡ true → i ≡ left
-  counted-all f = let l = ltb-false i left (sym e ∙ not_yes b f) in omega arith
+  pub counted_all : not b ≡ true → i ≡ left
+  counted_all f = let l = ltb-false i left (sym e ∙ not_yes b f) in omega arith
 
-pub counted-16 : (table state : List ℕ) (i : ℕ) → i ≤ readingsLeft table state → 16 ≤ i → i ≡ readingsLeft table state
-counted-16 table state i h l = let few = few-left table state in omega arith
+pub counted_16 : (table state : List ℕ) (i : ℕ) → i ≤ readings_left table state → 16 ≤ i → i ≡ readings_left table state
+counted_16 table state i h l = let few = few_left table state in omega arith

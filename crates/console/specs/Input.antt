@@ -9,25 +9,25 @@ use Rattle.console.specs.declared.lines.Next.{Next}
 use Rattle.console.specs.declared.lines.Next.TheVariants as next
 
 -- The bytes of a piece and of a line.
-abbrev pub pieceRoom : ℕ
-pieceRoom = 65536
+abbrev pub piece_room : ℕ
+piece_room = 65536
 
-abbrev pub lineRoom : ℕ
-lineRoom = 131100
+abbrev pub line_room : ℕ
+line_room = 131100
 
 -- The first byte of a piece of which so many bytes were read; none were at the end of the input.
-unfoldable pub begunBy : (piece : List ℕ) (end : ℕ) → Byte
-begunBy piece end = if eqb end 0 then byte.End else byte.Is (get_or piece 0 0) (record { at = 1; end = end })
+unfoldable pub begun_by : (piece : List ℕ) (end : ℕ) → Byte
+begun_by piece end = if eqb end 0 then byte.End else byte.Is (get_or piece 0 0) (record { at = 1; end = end })
 
 pub record Refilled (piece : List ℕ) (r : Byte) : Type 0 where
   pub end : ℕ
   pub within : end ≤ length piece
-  pub is : r ≡ begunBy piece end
+  pub is : r ≡ begun_by piece end
 
 -- The piece's next byte, or, where none is left, the first of a new one.
 pub record Fetched (piece : List ℕ) (rest : Rest) (r : Byte) (piece' : List ℕ) : Type 0 where
-  pub there : rest.at < rest.end → rest.at < pieceRoom → (r ≡ byte.Is (get_or piece rest.at 0) (record { at = rest.at + 1; end = rest.end })) × (piece' ≡ piece)
-  pub over : (rest.end ≤ rest.at) ⊎ (pieceRoom ≤ rest.at) → Refilled piece' r
+  pub there : rest.at < rest.end → rest.at < piece_room → (r ≡ byte.Is (get_or piece rest.at 0) (record { at = rest.at + 1; end = rest.end })) × (piece' ≡ piece)
+  pub over : (rest.end ≤ rest.at) ⊎ (piece_room ≤ rest.at) → Refilled piece' r
 
 -- These bytes, one after the other, from one place of the input to another.
 pub record OneByte (piece : List ℕ) (rest : Rest) (b : ℕ) (on : List ℕ → Rest → Type 0) : Type 0 where
@@ -42,36 +42,36 @@ Taken piece rest (b ∷ bytes) piece' rest' = OneByte piece rest b (λ p r. Take
 
 -- A byte goes behind the others; a line too long is cut, and counts one byte more than the place has.
 pub record PutIs (line : List ℕ) (length byte r : ℕ) (line' : List ℕ) : Type 0 where
-  pub counts : r ≡ (if ltb length lineRoom then length + 1 else lineRoom + 1)
-  pub bytes : line' ≡ (if ltb length lineRoom then set line length byte else line)
+  pub counts : r ≡ (if ltb length line_room then length + 1 else line_room + 1)
+  pub bytes : line' ≡ (if ltb length line_room then set line length byte else line)
 
 -- A carriage return at a line's end does not belong to the line.
-unfoldable pub withoutReturn : (line : List ℕ) (length : ℕ) → ℕ
-withoutReturn line length = if both (ltb 0 length) (eqb (get_or line (length - 1) 0) 13) then length - 1 else length
+unfoldable pub without_return : (line : List ℕ) (length : ℕ) → ℕ
+without_return line length = if both (ltb 0 length) (eqb (get_or line (length - 1) 0) 13) then length - 1 else length
 
-unfoldable pub endedLine : (line : List ℕ) (length : ℕ) → Rest → Next
-endedLine line length rest = if ltb lineRoom length then next.TooLong rest else next.Line (withoutReturn line length) rest
+unfoldable pub ended_line : (line : List ℕ) (length : ℕ) → Rest → Next
+ended_line line length rest = if ltb line_room length then next.TooLong rest else next.Line (without_return line length) rest
 
 -- The last line may lack its end.
-unfoldable pub endedInput : (line : List ℕ) (length : ℕ) → Rest → Next
-endedInput line length rest = if eqb length 0 then next.End else endedLine line length rest
+unfoldable pub ended_input : (line : List ℕ) (length : ℕ) → Rest → Next
+ended_input line length rest = if eqb length 0 then next.End else ended_line line length rest
 
 -- How a line ends: with a line feed, with the input, or where no turn is left to take a byte in.
 pub record AtFeed (piece : List ℕ) (rest : Rest) (bytes : List ℕ) (r : Next) (piece' : List ℕ) : Type 0 where
   pub rest' : Rest
   pub taken : Taken piece rest (bytes ++ 10 ∷ []) piece' rest'
-  pub is : r ≡ endedLine bytes (length bytes) rest'
+  pub is : r ≡ ended_line bytes (length bytes) rest'
 
 pub record AtEnd (piece : List ℕ) (rest : Rest) (bytes : List ℕ) (r : Next) (piece' : List ℕ) : Type 0 where
   pub last : List ℕ
   pub rest' : Rest
   pub taken : Taken piece rest bytes last rest'
   pub over : Fetched last rest' byte.End piece'
-  pub is : r ≡ endedInput bytes (length bytes) rest'
+  pub is : r ≡ ended_input bytes (length bytes) rest'
 
 -- A line is the bytes up to the next line feed: the line's place has them at its front, as many as it has room for, and is else as it was.
 pub record LineIs (piece : List ℕ) (rest : Rest) (line : List ℕ) (r : Next) (piece' line' : List ℕ) : Type 0 where
   pub bytes : List ℕ
-  pub no-feed : every (λ b. not (eqb b 10)) bytes ≡ true
-  pub holds : line' ≡ sets line 0 (take lineRoom bytes)
+  pub no_feed : every (λ b. not (eqb b 10)) bytes ≡ true
+  pub holds : line' ≡ sets line 0 (take line_room bytes)
   pub ends : AtFeed piece rest bytes r piece' ⊎ (AtEnd piece rest bytes r piece' ⊎ ((length bytes ≡ 18446744073709551615) × (r ≡ next.End)))

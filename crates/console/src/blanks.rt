@@ -1,11 +1,11 @@
 // Blanks and tabs in a line: they stand between words and numbers, at its front and at its end, and as many as one likes.
 ghost use Rattle.std.specs.Prelude.{◌≡◌, drop};
-ghost use Rattle.console.specs.Text.{isBlank, pastBlanks, textEnd, trimmedOf};
+ghost use Rattle.console.specs.Text.{is_blank, past_blanks, text_end, trimmed_of};
 
 use super::lines::first;
 
 fn is_blank(byte: u8) -> bool
-    ensures { result ≡ isBlank byte }
+    ensures { result ≡ is_blank byte }
 {
     if byte == b' ' {
         return true;
@@ -15,7 +15,7 @@ fn is_blank(byte: u8) -> bool
 
 // Past the blanks that stand from a place on.
 pub fn past_blanks(line: &[u8], at: usize) -> usize
-    ensures { result ≡ pastBlanks line.now at }
+    ensures { result ≡ past_blanks line.now at }
 {
     let mut i = at;
     while i < line.len() {
@@ -29,7 +29,7 @@ pub fn past_blanks(line: &[u8], at: usize) -> usize
 
 // Where the blanks at the line's end begin.
 fn text_end(line: &[u8]) -> usize
-    ensures { result ≡ textEnd line.now }
+    ensures { result ≡ text_end line.now }
 {
     let mut end = line.len();
     while end > 0 {
@@ -55,7 +55,7 @@ pub fn from(bytes: &[u8], at: usize) -> &[u8]
 
 // The line without the blanks at its front and at its end.
 pub fn trimmed(line: &[u8]) -> &[u8]
-    ensures { result.now ≡ trimmedOf line.now }
+    ensures { result.now ≡ trimmed_of line.now }
 {
     let text = first(line, text_end(line));
     from(text, past_blanks(text, 0))

@@ -1,6 +1,6 @@
 // Lines of standard input, one after the other.
 ghost use Rattle.std.specs.Prelude.{◌≡◌};
-ghost use Rattle.console.specs.Input.{begunBy, Refilled, Fetched, PutIs, withoutReturn, endedLine, endedInput, LineIs};
+ghost use Rattle.console.specs.Input.{begun_by, Refilled, Fetched, PutIs, without_return, ended_line, ended_input, LineIs};
 ghost use Rattle.console.specs.Text.{first_of};
 
 use libc::STDIN_FILENO;
@@ -55,7 +55,7 @@ pub fn nothing() -> Rest
 
 // The first byte of a piece of which so many bytes were read.
 fn begun(piece: &Piece, end: usize) -> Byte
-    ensures { result ≡ begunBy piece.now end }
+    ensures { result ≡ begun_by piece.now end }
 {
     if end == 0 {
         return Byte::End;
@@ -106,7 +106,7 @@ fn put(line: &mut Line, length: usize, byte: u8) -> usize
 
 // How long a line is without a carriage return at its end, which some systems put before the line feed.
 fn without_return(line: &[u8], length: usize) -> usize
-    ensures { result ≡ withoutReturn line.now length }
+    ensures { result ≡ without_return line.now length }
 {
     if length == 0 {
         return length;
@@ -121,7 +121,7 @@ fn without_return(line: &[u8], length: usize) -> usize
 }
 
 fn ended_line(line: &[u8], length: usize, rest: Rest) -> Next
-    ensures { result ≡ endedLine line.now length rest }
+    ensures { result ≡ ended_line line.now length rest }
 {
     if length > LINE {
         return Next::TooLong { rest };
@@ -134,7 +134,7 @@ fn ended_line(line: &[u8], length: usize, rest: Rest) -> Next
 
 // The last line may lack its end.
 fn ended_input(line: &[u8], length: usize, rest: Rest) -> Next
-    ensures { result ≡ endedInput line.now length rest }
+    ensures { result ≡ ended_input line.now length rest }
 {
     if length == 0 {
         return Next::End;

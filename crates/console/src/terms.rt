@@ -1,6 +1,6 @@
 // A term is fed: what the trace says of it.
 ghost use Rattle.std.specs.Prelude.{◌≡◌, ltb};
-ghost use Rattle.console.specs.Tracing.{readingsLeft, TracedIs};
+ghost use Rattle.console.specs.Tracing.{readings_left, TracedIs};
 
 use super::{State, Work};
 use by_value::{reading, running};
@@ -16,7 +16,7 @@ pub struct Traced {
 }
 
 fn has_reading(table: &[u8], state: &State, i: u16) -> bool
-    ensures { result ≡ ltb i (readingsLeft table.now state.now) }
+    ensures { result ≡ ltb i (readings_left table.now state.now) }
 {
     let read = reading::stack_of(table, state, i, HEIGHTS);
     let answer = read.answer;
@@ -28,7 +28,7 @@ fn has_reading(table: &[u8], state: &State, i: u16) -> bool
 
 // How many readings are left: the first number that none has.
 fn readings_left(table: &[u8], state: &State) -> u16
-    ensures { result ≡ readingsLeft table.now state.now }
+    ensures { result ≡ readings_left table.now state.now }
 {
     let mut i: u16 = 0;
     while i < Machine::READINGS {

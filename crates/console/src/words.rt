@@ -1,6 +1,6 @@
 // What stands in a line: words, numbers with blanks between two, terms.
 ghost use Rattle.std.specs.Prelude.{◌≡◌};
-ghost use Rattle.console.specs.Text.{digitOf, grownBy, ScanIs, number_at, lastNumber, nextNumber, value_of, short_of, termAt, beginsWith, behindWord};
+ghost use Rattle.console.specs.Text.{digit_of, grown_by, ScanIs, number_at, last_number, next_number, value_of, short_of, term_at, begins_with, behind_word};
 
 use super::blanks::past_blanks;
 use meaning::Term;
@@ -36,7 +36,7 @@ struct Scan {
 
 // A digit's value, up to 15; 16 for what is no digit.
 pub fn digit(byte: u8) -> u8
-    ensures { result ≡ digitOf byte }
+    ensures { result ≡ digit_of byte }
 {
     match byte {
         b'0'..=b'9' => byte - 48,
@@ -48,7 +48,7 @@ pub fn digit(byte: u8) -> u8
 
 // The number with one decimal digit more; one that is too great only stays so.
 fn grown(value: u64, digit: u8) -> u64
-    ensures { result ≡ grownBy value digit }
+    ensures { result ≡ grown_by value digit }
 {
     if value > GREATEST {
         return value;
@@ -94,7 +94,7 @@ fn number_at(line: &[u8], at: usize) -> Number
 
 // The number past the blanks from a place on, as the line's last.
 pub fn last_number(line: &[u8], at: usize) -> Number
-    ensures { result ≡ lastNumber line.now at }
+    ensures { result ≡ last_number line.now at }
 {
     match number_at(line, past_blanks(line, at)) {
         Number::Not => Number::Not,
@@ -109,7 +109,7 @@ pub fn last_number(line: &[u8], at: usize) -> Number
 
 // The number after another; none if that is none.
 fn next_number(line: &[u8], before: Number) -> Number
-    ensures { result ≡ nextNumber line.now before }
+    ensures { result ≡ next_number line.now before }
 {
     match before {
         Number::Not => Number::Not,
@@ -139,7 +139,7 @@ pub fn short(value: u32) -> u16
 
 // The four numbers of a term, past the blanks from a place on, to the line's end.
 pub fn term_at(line: &[u8], at: usize) -> Parsed
-    ensures { result ≡ termAt line.now at }
+    ensures { result ≡ term_at line.now at }
 {
     let class = number_at(line, past_blanks(line, at));
     let value = next_number(line, class);
@@ -162,7 +162,7 @@ pub fn term_at(line: &[u8], at: usize) -> Parsed
 
 // Whether the line begins with a word.
 pub fn begins(line: &[u8], word: &[u8]) -> bool
-    ensures { result ≡ beginsWith line.now word.now }
+    ensures { result ≡ begins_with line.now word.now }
 {
     let mut i: usize = 0;
     while i < word.len() {
@@ -179,7 +179,7 @@ pub fn begins(line: &[u8], word: &[u8]) -> bool
 
 // Past a word that the line begins with, and the blanks behind it; a longer word is another.
 pub fn behind_word(line: &[u8], word: &[u8]) -> Behind
-    ensures { result ≡ behindWord line.now word.now }
+    ensures { result ≡ behind_word line.now word.now }
 {
     if !begins(line, word) {
         return Behind::Not;

@@ -1,4 +1,4 @@
--- A rule is named exactly if the table file is wrong: the diagnosis and `tableOk` agree, part by part. Assumes nothing.
+-- A rule is named exactly if the table file is wrong: the diagnosis and `table_ok` agree, part by part. Assumes nothing.
 use mathlib.Core.Path.{◌≡◌, refl, ap, sym, ◌∙◌}
 use mathlib.Core.Bool.{Bool, true, false, not}
 use mathlib.Core.List.{List, [], ◌∷◌, map}
@@ -8,58 +8,58 @@ use lib.Dec.{ltb, leb, eqb}
 use lib.ListN.{length}
 use borrow.Author.Tests.{lt-ltb}
 use Rattle.meaning.specs.Basics.{if◌then◌else◌, both, either, Maybe, nothing, just, isNil, every}
-use Rattle.meaning.specs.Bytes.{byte_at, u16At}
-use Rattle.meaning.specs.Limits.{maxBytes}
-use Rattle.meaning.specs.TableFile.{places, numbers, rulesFrom, ruleAt, actionAt, gotoAt, shiftTo, view_of, table_of, actionOf, startClass}
-use Rattle.meaning.specs.TableRight.{countsRight, headAt, frontRight, middleRight, backRight, shapeRight, frameRight, picks, kindRight, ruleRight, shifts, shiftRight, rulesBelow, actionRight, gotoRight, Format, actionFormat, gotoFormat, key_of, fits, ascends, recordsRight, fieldRight, contentRight, tableOk}
+use Rattle.meaning.specs.Bytes.{byte_at, u16_at}
+use Rattle.meaning.specs.Limits.{max_bytes}
+use Rattle.meaning.specs.TableFile.{places, numbers, rules_from, rule_at, action_at, goto_at, shift_to, view_of, table_of, action_of, start_class}
+use Rattle.meaning.specs.TableRight.{counts_right, head_at, front_right, middle_right, back_right, shape_right, frame_right, picks, kind_right, rule_right, shifts, shift_right, rules_below, action_right, goto_right, Format, action_format, goto_format, key_of, fits, ascends, records_right, field_right, content_right, table_ok}
 use Rattle.meaning.specs.declared.Counts.{Counts}
 use Rattle.meaning.specs.declared.Rule.{Rule}
 use Rattle.meaning.specs.declared.View.{View}
 use Rattle.meaning.proofs.Booleans.{no_false, regroup}
-use Rattle.table.specs.Answers.{checkOf}
+use Rattle.table.specs.Answers.{check_of}
 use Rattle.table.specs.declared.Checked.{Checked}
 use Rattle.table.specs.declared.Checked.TheVariants.{Wrong as Checked-Wrong, Right as Checked-Right}
-use Rattle.table.proofs.Checking.{belongs-of, wrong-of}
+use Rattle.table.proofs.Checking.{belongs_of, wrong_of}
 use Rattle.faults.specs.Verdicts.{holds, first, framed, recorded}
-use Rattle.faults.specs.Frame.{statesFault, classesFault, nonterminalsFault, countsFault, tagFault, headFault, backFault, frontFault, frameFault}
-use Rattle.faults.specs.Rules.{pickFault, highFault, rangeFault, kindFault, ruleFault, rulesFault}
-use Rattle.faults.specs.Records.{targetFault, reductionsFault, pairFault, actionFault, gotoFault, inField, recordsFault, fieldFault, actionsFault, gotosFault}
-use Rattle.faults.specs.Diagnosis.{faultsOver, faultOf, Diagnosed}
+use Rattle.faults.specs.Frame.{states_fault, classes_fault, nonterminals_fault, counts_fault, tag_fault, head_fault, back_fault, front_fault, frame_fault}
+use Rattle.faults.specs.Rules.{pick_fault, high_fault, range_fault, kind_fault, rule_fault, rules_fault}
+use Rattle.faults.specs.Records.{target_fault, reductions_fault, pair_fault, action_fault, goto_fault, in_field, records_fault, field_fault, actions_fault, gotos_fault}
+use Rattle.faults.specs.Diagnosis.{faults_over, fault_of, Diagnosed}
 use Rattle.faults.specs.declared.Fault.{Fault}
 use Rattle.faults.specs.declared.Fault.TheVariants.{NoStart}
 use Rattle.faults.specs.declared.Verdict.{Verdict}
 use Rattle.faults.specs.declared.Verdict.TheVariants.{Right, Wrong, WrongRecord}
 
 -- One test, and two.
-holds-first : (a b : Verdict) → holds (first a b) ≡ both (holds a) (holds b)
-holds-first Right b = refl
-holds-first (Wrong x y z) b = refl
-holds-first (WrongRecord x y z w) b = refl
+holds_first : (a b : Verdict) → holds (first a b) ≡ both (holds a) (holds b)
+holds_first Right b = refl
+holds_first (Wrong x y z) b = refl
+holds_first (WrongRecord x y z w) b = refl
 
-holds-framed : (b : Bool) (x : Fault) (y z : ℕ) → holds (framed b x y z) ≡ b
-holds-framed true x y z = refl
-holds-framed false x y z = refl
+holds_framed : (b : Bool) (x : Fault) (y z : ℕ) → holds (framed b x y z) ≡ b
+holds_framed true x y z = refl
+holds_framed false x y z = refl
 
-holds-recorded : (b : Bool) (x : Fault) (y z w : ℕ) → holds (recorded b x y z w) ≡ b
-holds-recorded true x y z w = refl
-holds-recorded false x y z w = refl
+holds_recorded : (b : Bool) (x : Fault) (y z w : ℕ) → holds (recorded b x y z w) ≡ b
+holds_recorded true x y z w = refl
+holds_recorded false x y z w = refl
 
 -- The frame: the check has the counts first, the diagnosis has them where they stand.
-counts-agree : (c : Counts) → holds (countsFault c) ≡ countsRight c
-unfolding countsFault statesFault classesFault nonterminalsFault countsRight
-counts-agree c = simp (holds-first, holds-framed)
+counts_agree : (c : Counts) → holds (counts_fault c) ≡ counts_right c
+unfolding counts_fault states_fault classes_fault nonterminals_fault counts_right
+counts_agree c = simp (holds_first, holds_framed)
 
-tag-agrees : (s : List ℕ) (i field : ℕ) → holds (tagFault s i field) ≡ eqb (byte_at s i) field
-unfolding tagFault
-tag-agrees s i field = holds-framed _ _ _ _
+tag_agrees : (s : List ℕ) (i field : ℕ) → holds (tag_fault s i field) ≡ eqb (byte_at s i) field
+unfolding tag_fault
+tag_agrees s i field = holds_framed _ _ _ _
 
-head-agrees : (s : List ℕ) (i field len : ℕ) → holds (headFault s i field len) ≡ headAt s i field len
-unfolding headFault
-head-agrees s i field len = simp (holds-first, tag-agrees, holds-framed)
+head_agrees : (s : List ℕ) (i field len : ℕ) → holds (head_fault s i field len) ≡ head_at s i field len
+unfolding head_fault
+head_agrees s i field len = simp (holds_first, tag_agrees, holds_framed)
 
-back-agrees : (s : List ℕ) (i : ℕ) → holds (backFault s i) ≡ backRight s i
-unfolding backFault backRight
-back-agrees s i = simp (holds-first, head-agrees, holds-framed)
+back_agrees : (s : List ℕ) (i : ℕ) → holds (back_fault s i) ≡ back_right s i
+unfolding back_fault back_right
+back_agrees s i = simp (holds_first, head_agrees, holds_framed)
 
 ordered : (l h c k t u b : Bool) → both (both l (both h (both c k))) (both t (both u b)) ≡ both c (both (both l (both h k)) (both (both t u) b))
 ordered true true true true true u b = refl
@@ -71,67 +71,67 @@ ordered true false false k t u b = refl
 ordered false h true k t u b = refl
 ordered false h false k t u b = refl
 
-frame-agrees : (s : List ℕ) (v : View) → holds (frameFault s v) ≡ frameRight s v
-unfolding frameFault frontFault frameRight shapeRight frontRight middleRight
-frame-agrees s v = simp (holds-first, tag-agrees, head-agrees, back-agrees, counts-agree, holds-framed)
-    (ordered (leb (length s) maxBytes) (headAt s 0 1 8) (countsRight v.counts) (headAt s 11 2 (17 * v.counts.rules)) (eqb (byte_at s v.rules.end) 3) (eqb (byte_at s v.actions.end) 4) (backRight s v.gotos.end))
+frame_agrees : (s : List ℕ) (v : View) → holds (frame_fault s v) ≡ frame_right s v
+unfolding frame_fault front_fault frame_right shape_right front_right middle_right
+frame_agrees s v = simp (holds_first, tag_agrees, head_agrees, back_agrees, counts_agree, holds_framed)
+    (ordered (leb (length s) max_bytes) (head_at s 0 1 8) (counts_right v.counts) (head_at s 11 2 (17 * v.counts.rules)) (eqb (byte_at s v.rules.end) 3) (eqb (byte_at s v.actions.end) 4) (back_right s v.gotos.end))
 
 -- Rules.
-pick-agrees : (r : Rule) (i p : ℕ) → holds (pickFault r i p) ≡ picks r
-unfolding pickFault picks
-pick-agrees r i p = simp (holds-first, holds-recorded)
+pick_agrees : (r : Rule) (i p : ℕ) → holds (pick_fault r i p) ≡ picks r
+unfolding pick_fault picks
+pick_agrees r i p = simp (holds_first, holds_recorded)
 
-high-agrees : (r : Rule) (i p : ℕ) → holds (highFault r i p) ≡ eqb r.high 0
-unfolding highFault
-high-agrees r i p = holds-recorded _ _ _ _ _
+high_agrees : (r : Rule) (i p : ℕ) → holds (high_fault r i p) ≡ eqb r.high 0
+unfolding high_fault
+high_agrees r i p = holds_recorded _ _ _ _ _
 
-range-agrees : (r : Rule) (i p : ℕ) → holds (rangeFault r i p) ≡ both (eqb r.low 0) (eqb r.high 0)
-unfolding rangeFault
-range-agrees r i p = simp (holds-first, holds-recorded, high-agrees)
+range_agrees : (r : Rule) (i p : ℕ) → holds (range_fault r i p) ≡ both (eqb r.low 0) (eqb r.high 0)
+unfolding range_fault
+range_agrees r i p = simp (holds_first, holds_recorded, high_agrees)
 
 chosen : (b : Bool) (x y : Verdict) (t u : Bool) → holds x ≡ t → holds y ≡ u → holds (if b then x else y) ≡ (if b then t else u)
 chosen true x y t u e f = e
 chosen false x y t u e f = f
 
-kind-agrees : (r : Rule) (i p : ℕ) → holds (kindFault r i p) ≡ kindRight r
-unfolding kindFault kindRight
-kind-agrees r i p =
-    chosen (eqb r.kind 0) _ _ _ _ (simp (holds-first, holds-recorded, range-agrees))
-    (chosen (eqb r.kind 1) _ _ _ _ (simp (holds-first, pick-agrees, range-agrees))
-    (chosen (eqb r.kind 2) _ _ _ _ (simp (holds-first, pick-agrees, high-agrees)) (chosen (eqb r.kind 3) _ _ _ _ (simp (holds-first, pick-agrees, holds-recorded)) refl)))
+kind_agrees : (r : Rule) (i p : ℕ) → holds (kind_fault r i p) ≡ kind_right r
+unfolding kind_fault kind_right
+kind_agrees r i p =
+    chosen (eqb r.kind 0) _ _ _ _ (simp (holds_first, holds_recorded, range_agrees))
+    (chosen (eqb r.kind 1) _ _ _ _ (simp (holds_first, pick_agrees, range_agrees))
+    (chosen (eqb r.kind 2) _ _ _ _ (simp (holds_first, pick_agrees, high_agrees)) (chosen (eqb r.kind 3) _ _ _ _ (simp (holds_first, pick_agrees, holds_recorded)) refl)))
 
-rule-agrees : (c : Counts) (r : Rule) (i p : ℕ) → holds (ruleFault c r i p) ≡ ruleRight c r
-unfolding ruleFault ruleRight
-rule-agrees c r i p = simp (holds-first, holds-recorded, kind-agrees)
+rule_agrees : (c : Counts) (r : Rule) (i p : ℕ) → holds (rule_fault c r i p) ≡ rule_right c r
+unfolding rule_fault rule_right
+rule_agrees c r i p = simp (holds_first, holds_recorded, kind_agrees)
 
-rules-agree : (c : Counts) (n : ℕ) (s : List ℕ) (i p : ℕ) → holds (rulesFault c n s i p) ≡ every (ruleRight c) (rulesFrom n s p)
-unfolding rulesFault rulesFrom
-rules-agree c zero s i p = refl
-rules-agree c (suc n) s i p = simp (holds-first, rule-agrees, rules-agree c n s (i + 1) (p + 17))
+rules_agree : (c : Counts) (n : ℕ) (s : List ℕ) (i p : ℕ) → holds (rules_fault c n s i p) ≡ every (rule_right c) (rules_from n s p)
+unfolding rules_fault rules_from
+rules_agree c zero s i p = refl
+rules_agree c (suc n) s i p = simp (holds_first, rule_agrees, rules_agree c n s (i + 1) (p + 17))
 
 -- Action records.
-reductions-agree : (m n : ℕ) (s : List ℕ) (i p : ℕ) → holds (reductionsFault m n s i p) ≡ every (λ k. ltb k m) (numbers n s p)
-unfolding reductionsFault numbers
-reductions-agree m zero s i p = refl
-reductions-agree m (suc n) s i p = simp (holds-first, holds-recorded, reductions-agree m n s i (p + 2))
+reductions_agree : (m n : ℕ) (s : List ℕ) (i p : ℕ) → holds (reductions_fault m n s i p) ≡ every (λ k. ltb k m) (numbers n s p)
+unfolding reductions_fault numbers
+reductions_agree m zero s i p = refl
+reductions_agree m (suc n) s i p = simp (holds_first, holds_recorded, reductions_agree m n s i (p + 2))
 
-numbers-length : (n : ℕ) (s : List ℕ) (p : ℕ) → length (numbers n s p) ≡ n
+numbers_length : (n : ℕ) (s : List ℕ) (p : ℕ) → length (numbers n s p) ≡ n
 unfolding numbers
-numbers-length zero s p = refl
-numbers-length (suc n) s p = ap suc (numbers-length n s (p + 2))
+numbers_length zero s p = refl
+numbers_length (suc n) s p = ap suc (numbers_length n s (p + 2))
 
-numbers-some : (n : ℕ) (s : List ℕ) (p : ℕ) → not (isNil (numbers n s p)) ≡ ltb 0 n
+numbers_some : (n : ℕ) (s : List ℕ) (p : ℕ) → not (isNil (numbers n s p)) ≡ ltb 0 n
 unfolding numbers
-numbers-some zero s p = refl
-numbers-some (suc n) s p = sym (lt-ltb 0 (suc n) (omega arith))
+numbers_some zero s p = refl
+numbers_some (suc n) s p = sym (lt-ltb 0 (suc n) (omega arith))
 
-pair-agrees : (s : List ℕ) (c : Counts) (i p : ℕ) → holds (pairFault s c i p) ≡ both (ltb (u16At s p) c.states) (ltb (u16At s (p + 2)) c.classes)
-unfolding pairFault
-pair-agrees s c i p = simp (holds-first, holds-recorded)
+pair_agrees : (s : List ℕ) (c : Counts) (i p : ℕ) → holds (pair_fault s c i p) ≡ both (ltb (u16_at s p) c.states) (ltb (u16_at s (p + 2)) c.classes)
+unfolding pair_fault
+pair_agrees s c i p = simp (holds_first, holds_recorded)
 
-target-agrees : (to states count i p : ℕ) → holds (targetFault to states count i p) ≡ (if eqb to 65535 then ltb 0 count else ltb to states)
-unfolding targetFault
-target-agrees to states count i p = chosen (eqb to 65535) _ _ _ _ (holds-recorded _ _ _ _ _) (holds-recorded _ _ _ _ _)
+target_agrees : (to states count i p : ℕ) → holds (target_fault to states count i p) ≡ (if eqb to 65535 then ltb 0 count else ltb to states)
+unfolding target_fault
+target_agrees to states count i p = chosen (eqb to 65535) _ _ _ _ (holds_recorded _ _ _ _ _) (holds_recorded _ _ _ _ _)
 
 without : (some few below : Bool) → both some (both few below) ≡ both below (both few some)
 without true true true = refl
@@ -150,42 +150,42 @@ within true false true = refl
 within true false false = refl
 within false few below = refl
 
-shift-agrees : (c : Counts) (to : ℕ) (e some few below : Bool) →
+shift_agrees : (c : Counts) (to : ℕ) (e some few below : Bool) →
     both (if e then some else ltb to c.states) (both few below) ≡
-    both (both (shiftRight c (if e then nothing else just to)) below) (both few (either (shifts (if e then nothing else just to)) some))
-shift-agrees c to true some few below = without some few below
-shift-agrees c to false some few below = within (ltb to c.states) few below
+    both (both (shift_right c (if e then nothing else just to)) below) (both few (either (shifts (if e then nothing else just to)) some))
+shift_agrees c to true some few below = without some few below
+shift_agrees c to false some few below = within (ltb to c.states) few below
 
-action-agrees : (s : List ℕ) (c : Counts) (i p : ℕ) → holds (actionFault s c i p) ≡ actionRight c (actionAt s p)
-unfolding actionFault actionRight actionAt rulesBelow shiftTo
-action-agrees s c i p =
-    simp (holds-first, holds-recorded, pair-agrees, target-agrees, reductions-agree, numbers-length, numbers-some)
-    (ap (both (both (ltb (u16At s p) c.states) (ltb (u16At s (p + 2)) c.classes))) (shift-agrees c (u16At s (p + 4)) (eqb (u16At s (p + 4)) 65535) (ltb 0 (byte_at s (p + 6))) (leb (byte_at s (p + 6)) 4) (every (λ k. ltb k c.rules) (numbers (byte_at s (p + 6)) s (p + 7)))))
+action_agrees : (s : List ℕ) (c : Counts) (i p : ℕ) → holds (action_fault s c i p) ≡ action_right c (action_at s p)
+unfolding action_fault action_right action_at rules_below shift_to
+action_agrees s c i p =
+    simp (holds_first, holds_recorded, pair_agrees, target_agrees, reductions_agree, numbers_length, numbers_some)
+    (ap (both (both (ltb (u16_at s p) c.states) (ltb (u16_at s (p + 2)) c.classes))) (shift_agrees c (u16_at s (p + 4)) (eqb (u16_at s (p + 4)) 65535) (ltb 0 (byte_at s (p + 6))) (leb (byte_at s (p + 6)) 4) (every (λ k. ltb k c.rules) (numbers (byte_at s (p + 6)) s (p + 7)))))
 
-goto-agrees : (s : List ℕ) (c : Counts) (i p : ℕ) → holds (gotoFault s c i p) ≡ gotoRight c (gotoAt s p)
-unfolding gotoFault gotoRight gotoAt
-goto-agrees s c i p = simp (holds-first, holds-recorded)
+goto_agrees : (s : List ℕ) (c : Counts) (i p : ℕ) → holds (goto_fault s c i p) ≡ goto_right c (goto_at s p)
+unfolding goto_fault goto_right goto_at
+goto_agrees s c i p = simp (holds_first, holds_recorded)
 
 -- The records of a field.
 module _ {X : Type 0} (F : Format X) (field : ℕ) (one : ℕ → ℕ → Verdict) (so : (i p : ℕ) → holds (one i p) ≡ F.right (F.decode p)) (e : ℕ) where
-  records-agree : (low i : ℕ) (ps : List ℕ) → holds (recordsFault F field one e low i ps) ≡ recordsRight F e low ps
-  unfolding recordsFault recordsRight inField ascends
-  records-agree low i [] = refl
-  records-agree low i (p ∷ ps) =
-      simp (holds-first, holds-recorded, so i p, records-agree (key_of F (F.decode p) + 1) (i + 1) ps)
+  records_agree : (low i : ℕ) (ps : List ℕ) → holds (records_fault F field one e low i ps) ≡ records_right F e low ps
+  unfolding records_fault records_right in_field ascends
+  records_agree low i [] = refl
+  records_agree low i (p ∷ ps) =
+      simp (holds_first, holds_recorded, so i p, records_agree (key_of F (F.decode p) + 1) (i + 1) ps)
       (sym (regroup (fits F e p) (F.right (F.decode p)) (leb low (key_of F (F.decode p))) (every (fits F e) ps) (every F.right (map F.decode ps)) (ascends (key_of F (F.decode p) + 1) (map (key_of F) (map F.decode ps)))))
 
-  field-agrees : (low i at : ℕ) → holds (fieldFault F field one e low i at) ≡ fieldRight F e low at
-  unfolding fieldFault fieldRight
-  field-agrees low i at = records-agree low i (places F.size (e - at) at e)
+  field_agrees : (low i at : ℕ) → holds (field_fault F field one e low i at) ≡ field_right F e low at
+  unfolding field_fault field_right
+  field_agrees low i at = records_agree low i (places F.size (e - at) at e)
 
-actions-agree : (s : List ℕ) (c : Counts) (e low i at : ℕ) → holds (fieldFault (actionFormat s c) 3 (actionFault s c) e low i at) ≡ fieldRight (actionFormat s c) e low at
-unfolding actionFormat
-actions-agree s c e = field-agrees (actionFormat s c) 3 (actionFault s c) (action-agrees s c) e
+actions_agree : (s : List ℕ) (c : Counts) (e low i at : ℕ) → holds (field_fault (action_format s c) 3 (action_fault s c) e low i at) ≡ field_right (action_format s c) e low at
+unfolding action_format
+actions_agree s c e = field_agrees (action_format s c) 3 (action_fault s c) (action_agrees s c) e
 
-gotos-agree : (s : List ℕ) (c : Counts) (e low i at : ℕ) → holds (fieldFault (gotoFormat s c) 4 (gotoFault s c) e low i at) ≡ fieldRight (gotoFormat s c) e low at
-unfolding gotoFormat
-gotos-agree s c e = field-agrees (gotoFormat s c) 4 (gotoFault s c) (goto-agrees s c) e
+gotos_agree : (s : List ℕ) (c : Counts) (e low i at : ℕ) → holds (field_fault (goto_format s c) 4 (goto_fault s c) e low i at) ≡ field_right (goto_format s c) e low at
+unfolding goto_format
+gotos_agree s c e = field_agrees (goto_format s c) 4 (goto_fault s c) (goto_agrees s c) e
 
 -- The whole.
 grouped : (f r a g t : Bool) → both f (both r (both a (both g t))) ≡ both f (both (both r (both a g)) t)
@@ -194,12 +194,12 @@ grouped true false a g t = refl
 grouped true true false g t = refl
 grouped true true true g t = refl
 
-pub faults-agree : (s : List ℕ) → holds (faultOf s) ≡ tableOk s
-unfolding faultOf faultsOver tableOk contentRight
-faults-agree s = simp (holds-first, holds-framed, frame-agrees, rules-agree, actions-agree, gotos-agree)
-    (grouped (frameRight s (view_of s)) (every (ruleRight (view_of s).counts) (rulesFrom (view_of s).counts.rules s (view_of s).rules.at))
-    (fieldRight (actionFormat s (view_of s).counts) (view_of s).actions.end 0 (view_of s).actions.at)
-    (fieldRight (gotoFormat s (view_of s).counts) (view_of s).gotos.end 0 (view_of s).gotos.at) (shifts (actionOf (table_of s) 0 startClass).shift))
+pub faults_agree : (s : List ℕ) → holds (fault_of s) ≡ table_ok s
+unfolding fault_of faults_over table_ok content_right
+faults_agree s = simp (holds_first, holds_framed, frame_agrees, rules_agree, actions_agree, gotos_agree)
+    (grouped (frame_right s (view_of s)) (every (rule_right (view_of s).counts) (rules_from (view_of s).counts.rules s (view_of s).rules.at))
+    (field_right (action_format s (view_of s).counts) (view_of s).actions.end 0 (view_of s).actions.at)
+    (field_right (goto_format s (view_of s).counts) (view_of s).gotos.end 0 (view_of s).gotos.at) (shifts (action_of (table_of s) 0 start_class).shift))
 
 -- A diagnosis that names nothing, and one whose last test does not matter.
 right_is : (v : Verdict) → holds v ≡ true → Right ≡ v
@@ -207,35 +207,35 @@ right_is Right e = refl
 right_is (Wrong x y z) e = no_false e
 right_is (WrongRecord x y z w) e = no_false e
 
-wrong-last : (f r a g w : Verdict) → holds (first f (first r (first a (first g Right)))) ≡ false →
+wrong_last : (f r a g w : Verdict) → holds (first f (first r (first a (first g Right)))) ≡ false →
     first f (first r (first a (first g w))) ≡ first f (first r (first a (first g Right)))
-wrong-last (Wrong x y z) r a g w e = refl
-wrong-last (WrongRecord x y z u) r a g w e = refl
-wrong-last Right (Wrong x y z) a g w e = refl
-wrong-last Right (WrongRecord x y z u) a g w e = refl
-wrong-last Right Right (Wrong x y z) g w e = refl
-wrong-last Right Right (WrongRecord x y z u) g w e = refl
-wrong-last Right Right Right (Wrong x y z) w e = refl
-wrong-last Right Right Right (WrongRecord x y z u) w e = refl
-wrong-last Right Right Right Right w e = no_false (sym e)
+wrong_last (Wrong x y z) r a g w e = refl
+wrong_last (WrongRecord x y z u) r a g w e = refl
+wrong_last Right (Wrong x y z) a g w e = refl
+wrong_last Right (WrongRecord x y z u) a g w e = refl
+wrong_last Right Right (Wrong x y z) g w e = refl
+wrong_last Right Right (WrongRecord x y z u) g w e = refl
+wrong_last Right Right Right (Wrong x y z) w e = refl
+wrong_last Right Right Right (WrongRecord x y z u) w e = refl
+wrong_last Right Right Right Right w e = no_false (sym e)
 
-start-last : (s : List ℕ) (v : View) (b : Bool) (x : Fault) (y z : ℕ) → holds (faultsOver s v (framed b x y z)) ≡ false →
-    faultsOver s v (Wrong x y z) ≡ faultsOver s v (framed b x y z)
-unfolding faultsOver
-start-last s v false x y z e = refl
-start-last s v true x y z e =
-    wrong-last (frameFault s v) (rulesFault v.counts v.counts.rules s 0 v.rules.at) (actionsFault s v.counts v.actions.end 0 0 v.actions.at)
-    (gotosFault s v.counts v.gotos.end 0 0 v.gotos.at) (Wrong x y z) e
+start_last : (s : List ℕ) (v : View) (b : Bool) (x : Fault) (y z : ℕ) → holds (faults_over s v (framed b x y z)) ≡ false →
+    faults_over s v (Wrong x y z) ≡ faults_over s v (framed b x y z)
+unfolding faults_over
+start_last s v false x y z e = refl
+start_last s v true x y z e =
+    wrong_last (frame_fault s v) (rules_fault v.counts v.counts.rules s 0 v.rules.at) (actions_fault s v.counts v.actions.end 0 0 v.actions.at)
+    (gotos_fault s v.counts v.gotos.end 0 0 v.gotos.at) (Wrong x y z) e
 
 -- The two ways out of the diagnosis.
-pub diagnosed-right : (s : List ℕ) (v : View) (r : Checked) → r ≡ checkOf s → r ≡ Checked-Right v → Diagnosed s Right
-diagnosed-right s v r e f =
-    let ok = (belongs-of s v r e f).ok in
-    record { names = right_is (faultOf s) (faults-agree s ∙ ok); agrees = sym ok }
+pub diagnosed_right : (s : List ℕ) (v : View) (r : Checked) → r ≡ check_of s → r ≡ Checked-Right v → Diagnosed s Right
+diagnosed_right s v r e f =
+    let ok = (belongs_of s v r e f).ok in
+    record { names = right_is (fault_of s) (faults_agree s ∙ ok); agrees = sym ok }
 
-pub diagnosed-wrong : (s : List ℕ) (r : Checked) (x : Verdict) → r ≡ checkOf s → r ≡ Checked-Wrong → x ≡ faultsOver s (view_of s) (Wrong NoStart 3 (view_of s).actions.at) → Diagnosed s x
-unfolding faultOf
-diagnosed-wrong s r x e f g =
-    let bad = wrong-of s r e f in
-    let named : x ≡ faultOf s = g ∙ start-last s (view_of s) (shifts (actionOf (table_of s) 0 startClass).shift) NoStart 3 (view_of s).actions.at (faults-agree s ∙ bad) in
-    record { names = named; agrees = ap holds named ∙ faults-agree s }
+pub diagnosed_wrong : (s : List ℕ) (r : Checked) (x : Verdict) → r ≡ check_of s → r ≡ Checked-Wrong → x ≡ faults_over s (view_of s) (Wrong NoStart 3 (view_of s).actions.at) → Diagnosed s x
+unfolding fault_of
+diagnosed_wrong s r x e f g =
+    let bad = wrong_of s r e f in
+    let named : x ≡ fault_of s = g ∙ start_last s (view_of s) (shifts (action_of (table_of s) 0 start_class).shift) NoStart 3 (view_of s).actions.at (faults_agree s ∙ bad) in
+    record { names = named; agrees = ap holds named ∙ faults_agree s }

@@ -1,6 +1,6 @@
 // The frame of a table file: its length, the five fields, the counts.
 ghost use Rattle.std.specs.Prelude.{◌≡◌, ◌+◌, ◌*◌, ◌<◌, ◌≤◌};
-ghost use Rattle.faults.specs.Frame.{statesFault, classesFault, nonterminalsFault, countsFault, tagFault, headFault, backFault, frontFault, frameFault};
+ghost use Rattle.faults.specs.Frame.{states_fault, classes_fault, nonterminals_fault, counts_fault, tag_fault, head_fault, back_fault, front_fault, frame_fault};
 
 use super::reading::{byte_at, u16_at, wide16};
 use super::{Fault, Verdict, first, framed};
@@ -9,7 +9,7 @@ use meaning::{Counts, MAX_CLASSES, MAX_NONTERMINALS, MAX_RULES, MAX_STATES, View
 const MAX_BYTES: usize = 65536;
 
 fn states_fault(n: u16) -> Verdict
-    ensures { result ≡ statesFault n }
+    ensures { result ≡ states_fault n }
 {
     first(
         framed(1 <= n, Fault::FewStates, 1, 3),
@@ -18,7 +18,7 @@ fn states_fault(n: u16) -> Verdict
 }
 
 fn classes_fault(n: u16) -> Verdict
-    ensures { result ≡ classesFault n }
+    ensures { result ≡ classes_fault n }
 {
     first(
         framed(4 <= n, Fault::FewClasses, 1, 5),
@@ -27,7 +27,7 @@ fn classes_fault(n: u16) -> Verdict
 }
 
 fn nonterminals_fault(n: u16) -> Verdict
-    ensures { result ≡ nonterminalsFault n }
+    ensures { result ≡ nonterminals_fault n }
 {
     first(
         framed(1 <= n, Fault::FewNonterminals, 1, 7),
@@ -36,7 +36,7 @@ fn nonterminals_fault(n: u16) -> Verdict
 }
 
 fn counts_fault(counts: Counts) -> Verdict
-    ensures { result ≡ countsFault counts }
+    ensures { result ≡ counts_fault counts }
 {
     let states = states_fault(counts.states);
     let classes = classes_fault(counts.classes);
@@ -47,7 +47,7 @@ fn counts_fault(counts: Counts) -> Verdict
 
 // The tag of a field.
 fn tag_fault(table: &[u8], i: usize, field: u8) -> Verdict
-    ensures { result ≡ tagFault table.now i field }
+    ensures { result ≡ tag_fault table.now i field }
 {
     framed(byte_at(table, i) == field, Fault::WrongTag, field, i)
 }
@@ -55,7 +55,7 @@ fn tag_fault(table: &[u8], i: usize, field: u8) -> Verdict
 // The tag of a field, and the length that it has to have.
 fn head_fault(table: &[u8], i: usize, field: u8, length: usize) -> Verdict
     requires { i ≤ 200000 }
-    ensures { result ≡ headFault table.now i field length }
+    ensures { result ≡ head_fault table.now i field length }
 {
     let tag = tag_fault(table, i, field);
     let said = wide16(u16_at(table, i + 1));
@@ -68,7 +68,7 @@ fn head_fault(table: &[u8], i: usize, field: u8, length: usize) -> Verdict
 // The last field, whose tag is at i, with nothing behind it.
 fn back_fault(table: &[u8], i: usize) -> Verdict
     requires { i ≤ 200000 }
-    ensures { result ≡ backFault table.now i }
+    ensures { result ≡ back_fault table.now i }
 {
     let head = head_fault(table, i, 5, 1);
     let flag = framed(byte_at(table, i + 3) <= 1, Fault::WrongFlag, 5, i + 3);
@@ -78,7 +78,7 @@ fn back_fault(table: &[u8], i: usize) -> Verdict
 
 // Fields 1 and 2: their lengths are known.
 fn front_fault(table: &[u8], counts: Counts) -> Verdict
-    ensures { result ≡ frontFault table.now counts }
+    ensures { result ≡ front_fault table.now counts }
 {
     let long = framed(table.len() <= MAX_BYTES, Fault::TooLong, 0, MAX_BYTES);
     let one = head_fault(table, 0, 1, 8);
@@ -89,7 +89,7 @@ fn front_fault(table: &[u8], counts: Counts) -> Verdict
 
 pub(super) fn frame_fault(table: &[u8], view: View) -> Verdict
     requires { view.gotos.end ≤ 200000 }
-    ensures { result ≡ frameFault table.now view }
+    ensures { result ≡ frame_fault table.now view }
 {
     let front = front_fault(table, view.counts);
     let three = tag_fault(table, view.rules.end, 3);

@@ -2,7 +2,7 @@
 ghost use Rattle.std.specs.Prelude.{◌≡◌};
 ghost use Rattle.meaning.specs.TableFile.{view_of};
 ghost use Rattle.faults.specs.Verdicts.{holds, first, framed, recorded};
-ghost use Rattle.faults.specs.Diagnosis.{faultsOver, Diagnosed};
+ghost use Rattle.faults.specs.Diagnosis.{faults_over, Diagnosed};
 ghost use Rattle.faults.specs.declared.Verdict.TheVariants.{Wrong};
 ghost use Rattle.faults.specs.declared.Fault.TheVariants.{NoStart};
 
@@ -123,7 +123,7 @@ fn recorded(right: bool, fault: Fault, field: u8, record: usize, byte: usize) ->
 
 // What the bytes of a wrong table break: the frame, else a record, else that state 0 shifts at class 2.
 fn broken(table: &[u8]) -> Verdict
-    ensures { result ≡ faultsOver table.now (view_of table.now) (Wrong NoStart 3 (view_of table.now).actions.at) }
+    ensures { result ≡ faults_over table.now (view_of table.now) (Wrong NoStart 3 (view_of table.now).actions.at) }
 {
     let view = reading::view_of(table);
     let frame = frame::frame_fault(table, view);

@@ -1,7 +1,7 @@
 // What is read of the bytes of a table file, which may be any: past the end all is 0.
 ghost use Rattle.std.specs.Prelude.{◌≡◌, ◌+◌, ◌*◌, ◌<◌, ◌≤◌};
-ghost use Rattle.meaning.specs.Bytes.{byte_at, u16At, u32_at};
-ghost use Rattle.meaning.specs.TableFile.{field_at, countsOf, view_of};
+ghost use Rattle.meaning.specs.Bytes.{byte_at, u16_at, u32_at};
+ghost use Rattle.meaning.specs.TableFile.{field_at, counts_of, view_of};
 
 use meaning::{Counts, Field, View};
 
@@ -32,7 +32,7 @@ fn joined(high: u8, low: u8) -> u16
 
 pub(super) fn u16_at(table: &[u8], i: usize) -> u16
     requires { i ≤ 3000000 }
-    ensures { result ≡ u16At table.now i }
+    ensures { result ≡ u16_at table.now i }
 {
     joined(byte_at(table, i), byte_at(table, i + 1))
 }
@@ -63,7 +63,7 @@ fn field_at(table: &[u8], i: usize) -> Field
 }
 
 fn counts_of(table: &[u8]) -> Counts
-    ensures { result ≡ countsOf table.now }
+    ensures { result ≡ counts_of table.now }
 {
     Counts {
         states: u16_at(table, 3),

@@ -1,9 +1,9 @@
 // The records of the actions and of the gotos, one after the other.
 ghost use Rattle.std.specs.Prelude.{◌≡◌, ◌+◌, ◌*◌, ◌<◌, ◌≤◌};
-ghost use Rattle.meaning.specs.Bytes.{u16At};
-ghost use Rattle.meaning.specs.TableFile.{actionSize};
+ghost use Rattle.meaning.specs.Bytes.{u16_at};
+ghost use Rattle.meaning.specs.TableFile.{action_size};
 ghost use Rattle.meaning.specs.TableRight.{pair};
-ghost use Rattle.faults.specs.Records.{targetFault, reductionsFault, pairFault, actionFault, gotoFault, inField, actionsFault, gotosFault};
+ghost use Rattle.faults.specs.Records.{target_fault, reductions_fault, pair_fault, action_fault, goto_fault, in_field, actions_fault, gotos_fault};
 
 use super::reading::{byte_at, u16_at, wide8, wide16};
 use super::{Fault, Verdict, first, recorded};
@@ -16,7 +16,7 @@ const GOTO_SIZE: usize = 6;
 
 fn action_size(table: &[u8], p: usize) -> usize
     requires { p ≤ 250000 }
-    ensures { (result ≡ actionSize table.now p) × ((7 ≤ result) × (result ≤ 517)) }
+    ensures { (result ≡ action_size table.now p) × ((7 ≤ result) × (result ≤ 517)) }
 {
     7 + 2 * wide8(byte_at(table, p + 6))
 }
@@ -24,7 +24,7 @@ fn action_size(table: &[u8], p: usize) -> usize
 // The pair by which records ascend, as one number.
 fn key_at(table: &[u8], p: usize) -> usize
     requires { p ≤ 250000 }
-    ensures { (result ≡ pair (u16At table.now p) (u16At table.now (p + 2))) × (result < 4294967296) }
+    ensures { (result ≡ pair (u16_at table.now p) (u16_at table.now (p + 2))) × (result < 4294967296) }
 {
     wide16(u16_at(table, p)) * 65536 + wide16(u16_at(table, p + 2))
 }
@@ -32,7 +32,7 @@ fn key_at(table: &[u8], p: usize) -> usize
 // The rules of an action record: n numbers from p on, each of a rule.
 fn reductions_fault(table: &[u8], rules: u16, n: u8, i: usize, p: usize) -> Verdict
     requires { p ≤ 250000 }
-    ensures { result ≡ reductionsFault rules n table.now i p }
+    ensures { result ≡ reductions_fault rules n table.now i p }
 {
     let mut left = n;
     let mut at = p;
@@ -50,7 +50,7 @@ fn reductions_fault(table: &[u8], rules: u16, n: u8, i: usize, p: usize) -> Verd
 // Where a record's shift leads; no shift only beside a rule.
 fn target_fault(to: u16, states: u16, count: u8, i: usize, p: usize) -> Verdict
     requires { p ≤ 250000 }
-    ensures { result ≡ targetFault to states count i p }
+    ensures { result ≡ target_fault to states count i p }
 {
     if to == NO_SHIFT {
         return recorded(0 < count, Fault::NoAction, 3, i, p + 4);
@@ -61,7 +61,7 @@ fn target_fault(to: u16, states: u16, count: u8, i: usize, p: usize) -> Verdict
 // The state and the class of a record.
 fn pair_fault(table: &[u8], counts: Counts, i: usize, p: usize) -> Verdict
     requires { p ≤ 240000 }
-    ensures { result ≡ pairFault table.now counts i p }
+    ensures { result ≡ pair_fault table.now counts i p }
 {
     let state = u16_at(table, p);
     let class = u16_at(table, p + 2);
@@ -74,7 +74,7 @@ fn pair_fault(table: &[u8], counts: Counts, i: usize, p: usize) -> Verdict
 // The record i of the actions, at p.
 fn action_fault(table: &[u8], counts: Counts, i: usize, p: usize) -> Verdict
     requires { p ≤ 240000 }
-    ensures { result ≡ actionFault table.now counts i p }
+    ensures { result ≡ action_fault table.now counts i p }
 {
     let named = pair_fault(table, counts, i, p);
     let count = byte_at(table, p + 6);
@@ -87,7 +87,7 @@ fn action_fault(table: &[u8], counts: Counts, i: usize, p: usize) -> Verdict
 // The record i of the gotos, at p.
 fn goto_fault(table: &[u8], counts: Counts, i: usize, p: usize) -> Verdict
     requires { p ≤ 240000 }
-    ensures { result ≡ gotoFault table.now counts i p }
+    ensures { result ≡ goto_fault table.now counts i p }
 {
     let from = u16_at(table, p);
     let nonterminal = u16_at(table, p + 2);
@@ -106,7 +106,7 @@ fn goto_fault(table: &[u8], counts: Counts, i: usize, p: usize) -> Verdict
 
 // A record ends by the field's end, is right, and comes after the one before it.
 fn in_field(right: Verdict, field: u8, ends: bool, ascends: bool, i: usize, p: usize) -> Verdict
-    ensures { result ≡ inField right field ends ascends i p }
+    ensures { result ≡ in_field right field ends ascends i p }
 {
     let past = recorded(ends, Fault::PastField, field, i, p);
     let order = recorded(ascends, Fault::NotAscending, field, i, p);
@@ -116,7 +116,7 @@ fn in_field(right: Verdict, field: u8, ends: bool, ascends: bool, i: usize, p: u
 // The first broken record of the actions, which fill the bytes from `from` to end.
 pub(super) fn actions_fault(table: &[u8], counts: Counts, from: usize, end: usize) -> Verdict
     requires { end ≤ 200000 }
-    ensures { result ≡ actionsFault table.now counts «end» 0 0 from }
+    ensures { result ≡ actions_fault table.now counts «end» 0 0 from }
 {
     let mut i: usize = 0;
     let mut low: usize = 0;
@@ -140,7 +140,7 @@ pub(super) fn actions_fault(table: &[u8], counts: Counts, from: usize, end: usiz
 // The first broken record of the gotos, which fill the bytes from `from` to end.
 pub(super) fn gotos_fault(table: &[u8], counts: Counts, from: usize, end: usize) -> Verdict
     requires { end ≤ 200000 }
-    ensures { result ≡ gotosFault table.now counts «end» 0 0 from }
+    ensures { result ≡ gotos_fault table.now counts «end» 0 0 from }
 {
     let mut i: usize = 0;
     let mut low: usize = 0;

@@ -1,7 +1,7 @@
 // The rules of a table file, one after the other.
 ghost use Rattle.std.specs.Prelude.{◌≡◌, ◌+◌, ◌*◌, ◌<◌, ◌≤◌};
-ghost use Rattle.meaning.specs.TableFile.{ruleAt};
-ghost use Rattle.faults.specs.Rules.{pickFault, highFault, rangeFault, kindFault, ruleFault, rulesFault};
+ghost use Rattle.meaning.specs.TableFile.{rule_at};
+ghost use Rattle.faults.specs.Rules.{pick_fault, high_fault, range_fault, kind_fault, rule_fault, rules_fault};
 
 use super::reading::{byte_at, u16_at, u32_at};
 use super::{Fault, Verdict, first, recorded};
@@ -9,7 +9,7 @@ use meaning::{Counts, Rule};
 
 fn rule_at(table: &[u8], p: usize) -> Rule
     requires { p ≤ 2500000 }
-    ensures { result ≡ ruleAt table.now p }
+    ensures { result ≡ rule_at table.now p }
 {
     Rule {
         left: u16_at(table, p),
@@ -25,7 +25,7 @@ fn rule_at(table: &[u8], p: usize) -> Rule
 // The item that is picked: there is one, and it is among the items.
 fn pick_fault(r: Rule, i: usize, p: usize) -> Verdict
     requires { p ≤ 2500000 }
-    ensures { result ≡ pickFault r i p }
+    ensures { result ≡ pick_fault r i p }
 {
     first(
         recorded(1 <= r.pick, Fault::PickNoItem, 2, i, p + 4),
@@ -35,7 +35,7 @@ fn pick_fault(r: Rule, i: usize, p: usize) -> Verdict
 
 fn high_fault(r: Rule, i: usize, p: usize) -> Verdict
     requires { p ≤ 2500000 }
-    ensures { result ≡ highFault r i p }
+    ensures { result ≡ high_fault r i p }
 {
     recorded(r.high == 0, Fault::HighNotZero, 2, i, p + 13)
 }
@@ -43,7 +43,7 @@ fn high_fault(r: Rule, i: usize, p: usize) -> Verdict
 // No low and no high.
 fn range_fault(r: Rule, i: usize, p: usize) -> Verdict
     requires { p ≤ 2500000 }
-    ensures { result ≡ rangeFault r i p }
+    ensures { result ≡ range_fault r i p }
 {
     let low = recorded(r.low == 0, Fault::LowNotZero, 2, i, p + 9);
     first(low, high_fault(r, i, p))
@@ -51,7 +51,7 @@ fn range_fault(r: Rule, i: usize, p: usize) -> Verdict
 
 fn kind_fault(r: Rule, i: usize, p: usize) -> Verdict
     requires { p ≤ 2500000 }
-    ensures { result ≡ kindFault r i p }
+    ensures { result ≡ kind_fault r i p }
 {
     if r.kind == 0 {
         let pick = recorded(r.pick == 0, Fault::PickNotZero, 2, i, p + 4);
@@ -73,7 +73,7 @@ fn kind_fault(r: Rule, i: usize, p: usize) -> Verdict
 // The rule i, at p.
 fn rule_fault(counts: Counts, r: Rule, i: usize, p: usize) -> Verdict
     requires { p ≤ 2500000 }
-    ensures { result ≡ ruleFault counts r i p }
+    ensures { result ≡ rule_fault counts r i p }
 {
     let left = recorded(
         r.left < counts.nonterminals,
@@ -89,7 +89,7 @@ fn rule_fault(counts: Counts, r: Rule, i: usize, p: usize) -> Verdict
 // The first broken rule of those that are counted, the first of them at p.
 pub(super) fn rules_fault(table: &[u8], counts: Counts, p: usize) -> Verdict
     requires { p ≤ 70000 }
-    ensures { result ≡ rulesFault counts counts.rules table.now 0 p }
+    ensures { result ≡ rules_fault counts counts.rules table.now 0 p }
 {
     let count = counts.rules;
     let mut i: u16 = 0;

@@ -8,36 +8,36 @@ use Rattle.meaning.specs.Basics.{if◌then◌else◌}
 use Rattle.meaning.specs.Readings.{Reading, states}
 use Rattle.meaning.specs.TableFile.{Table, table_of}
 use Rattle.meaning.specs.Walk.{Walk, Walked, refused, walked, plan, ends, chains}
-use Rattle.meaning.specs.Applying.{Applied, apply, joined, nothingApplied}
+use Rattle.meaning.specs.Applying.{Applied, apply, joined, nothing_applied}
 use Rattle.meaning.specs.Feeding.{First as Meant, refuses, first}
 use Rattle.meaning.specs.declared.Refusal.{Refusal}
 use Rattle.meaning.specs.declared.Term.{Term}
 use Rattle.meaning.specs.declared.View.{View}
-use Rattle.meaning.proofs.Trees.{ends-chain, no-chain}
+use Rattle.meaning.proofs.Trees.{ends_chain, no_chain}
 use Rattle.table.specs.Answers.{Belongs}
-use Rattle.state.specs.Readings.{count_of, usedOf, readingsFrom, readingsOf}
+use Rattle.state.specs.Readings.{count_of, used_of, readings_from, readings_of}
 use Rattle.state.proofs.Births.{first_finds}
-use Rattle.state.proofs.Lists.{all-stand-kept}
-use Rattle.actions.specs.Errors.{errorsFrom}
+use Rattle.state.proofs.Lists.{all_stand_kept}
+use Rattle.actions.specs.Errors.{errors_from}
 use Rattle.actions.specs.Telling.{Area}
 use Rattle.taking.specs.declared.SoFar.{SoFar}
-use Rattle.feeding.specs.OnePass.{Pass as MeantPass, stopped, passed, onWalk, onePass, firstOfPass}
-use Rattle.feeding.specs.Passing.{PassReady, Stops, Passes, PassIs, passFrom}
-use Rattle.feeding.specs.Ending.{EndReady, EndsWith, Waits, SettledIs, FirstReady, passOver, MustRecover, Settles, FirstIs}
+use Rattle.feeding.specs.OnePass.{Pass as MeantPass, stopped, passed, on_walk, one_pass, first_of_pass}
+use Rattle.feeding.specs.Passing.{PassReady, Stops, Passes, PassIs, pass_from}
+use Rattle.feeding.specs.Ending.{EndReady, EndsWith, Waits, SettledIs, FirstReady, pass_over, MustRecover, Settles, FirstIs}
 use Rattle.feeding.specs.declared.Ended.{Ended}
 use Rattle.feeding.specs.declared.First.{First}
 use Rattle.feeding.specs.declared.First.TheVariants as at_first
 use Rattle.feeding.specs.declared.Pass.{Pass}
 use Rattle.feeding.specs.declared.Pass.TheVariants as pass
-use Rattle.feeding.proofs.OnePass.{one-pass, counted}
+use Rattle.feeding.proofs.OnePass.{one_pass_lem, counted}
 
 abbrev begun : (used : ℕ) → SoFar
 begun used = record { counts = record { cells = used; results = 0; errors = 0 }; walked = 0; chains = 0 }
 
 -- The pass begins with no result, no error and no reading left.
-module _ (s : List ℕ) (view : View) (state w : List ℕ) (y : FirstReady s view state w) (used count : ℕ) (u : used ≡ usedOf state) (c : count ≡ count_of state) where
-  pub pass-begins : PassReady s view state w count (begun used) 0
-  pass-begins =
+module _ (s : List ℕ) (view : View) (state w : List ℕ) (y : FirstReady s view state w) (used count : ℕ) (u : used ≡ used_of state) (c : count ≡ count_of state) where
+  pub pass_begins : PassReady s view state w count (begun used) 0
+  pass_begins =
       let few = y.few in let small = y.loaded.used in
       record {
         belongs = y.belongs;
@@ -57,11 +57,11 @@ module _ (s : List ℕ) (view : View) (state w : List ℕ) (y : FirstReady s vie
         budget = omega arith;
       }
 
-  pub pass-is : (x : Term) (w' : List ℕ) (r : Pass) → PassIs state w (passFrom (table_of s) x state w count (begun used) 0) w' r → PassIs state w (passOver (table_of s) x state) w' r
-  unfolding readingsFrom errorsFrom
-  pass-is x w' r h =
-      subst (λ (k : ℕ). PassIs state w (onePass (table_of s) x (reverse (readingsFrom state 18432 0 (count_of state))) (nothingApplied k) [] 0 0) w' r) u
-      (subst (λ (k : ℕ). PassIs state w (onePass (table_of s) x (reverse (readingsFrom state 18432 0 k)) (nothingApplied used) [] 0 0) w' r) c h)
+  pub pass_is : (x : Term) (w' : List ℕ) (r : Pass) → PassIs state w (pass_from (table_of s) x state w count (begun used) 0) w' r → PassIs state w (pass_over (table_of s) x state) w' r
+  unfolding readings_from errors_from
+  pass_is x w' r h =
+      subst (λ (k : ℕ). PassIs state w (one_pass (table_of s) x (reverse (readings_from state 18432 0 (count_of state))) (nothing_applied k) [] 0 0) w' r) u
+      (subst (λ (k : ℕ). PassIs state w (one_pass (table_of s) x (reverse (readings_from state 18432 0 k)) (nothing_applied used) [] 0 0) w' r) c h)
 
 -- A pass without a chain has left every reading, and nothing has come about.
 module _ (t : Table) (x : Term) where
@@ -69,16 +69,16 @@ module _ (t : Table) (x : Term) where
   AllLeft left rs c (stopped k) = Unit {0}
   AllLeft left rs c (passed a left' w' c') = (c ≤ c') × (c' ≡ c → left' ≡ left ++ rs)
 
-  all_left : (rs : List Reading) (a : Applied) (left : List Reading) (w c : ℕ) → AllLeft left rs c (onePass t x rs a left w c)
-  unfolding onePass
+  all_left : (rs : List Reading) (a : Applied) (left : List Reading) (w c : ℕ) → AllLeft left rs c (one_pass t x rs a left w c)
+  unfolding one_pass
   all_left [] a left w c = (omega arith, λ e. sym (append-nil left))
   all_left (r ∷ rs) a left w c = at (plan t 16 x.class (states r.stack) c) refl (λ a' left' w' c'. all_left rs a' left' w' c')
     where
       f : Walk → ℕ → ℕ → MeantPass
-      f tree k c' = onePass t x rs (joined a (apply t x tree r a.next)) left (w + k) c'
+      f tree k c' = one_pass t x rs (joined a (apply t x tree r a.next)) left (w + k) c'
 
       g : ℕ → ℕ → MeantPass
-      g k c' = onePass t x rs a (left ++ r ∷ []) (w + k) c'
+      g k c' = one_pass t x rs a (left ++ r ∷ []) (w + k) c'
 
       more : (c₁ : ℕ) → c < c₁ → (p : MeantPass) → AllLeft left rs c₁ p → AllLeft left (r ∷ rs) c p
       more c₁ h (stopped k) q = tt
@@ -88,20 +88,20 @@ module _ (t : Table) (x : Term) where
       same c₁ h (stopped k) q = tt
       same c₁ h (passed a' left' w' c') q = let q0 = q.0 in (omega arith, λ e. q.1 (omega arith) ∙ append_assoc left (r ∷ []) rs)
 
-      at : (v : Walked) → plan t 16 x.class (states r.stack) c ≡ v → ((a' : Applied) (left' : List Reading) (w' c' : ℕ) → AllLeft left' rs c' (onePass t x rs a' left' w' c')) → AllLeft left (r ∷ rs) c (onWalk v f g)
+      at : (v : Walked) → plan t 16 x.class (states r.stack) c ≡ v → ((a' : Applied) (left' : List Reading) (w' c' : ℕ) → AllLeft left' rs c' (one_pass t x rs a' left' w' c')) → AllLeft left (r ∷ rs) c (on_walk v f g)
       at (refused k) e go = tt
       at (walked tree k c₁) e go = by (ends tree) refl
         where
           by : (b : Bool) → ends tree ≡ b → AllLeft left (r ∷ rs) c (if b then f tree k c₁ else g k c₁)
           by true q =
-              let n = counted t x r c tree k c₁ e in let l = ends-chain tree q in
+              let n = counted t x r c tree k c₁ e in let l = ends_chain tree q in
               more c₁ (omega arith) (f tree k c₁) (go (joined a (apply t x tree r a.next)) left (w + k) c₁)
           by false q =
-              let n = counted t x r c tree k c₁ e in let l = no-chain tree q in
+              let n = counted t x r c tree k c₁ e in let l = no_chain tree q in
               same c₁ (omega arith) (g k c₁) (go a (left ++ r ∷ []) (w + k) c₁)
 
-  none-taken : (rs : List Reading) (n : ℕ) (a : Applied) (left : List Reading) (w c : ℕ) → onePass t x rs (nothingApplied n) [] 0 0 ≡ passed a left w c → c ≡ 0 → left ≡ rs
-  none-taken rs n a left w c e z = (subst (AllLeft [] rs 0) e (all_left rs (nothingApplied n) [] 0 0)).1 z
+  none_taken : (rs : List Reading) (n : ℕ) (a : Applied) (left : List Reading) (w c : ℕ) → one_pass t x rs (nothing_applied n) [] 0 0 ≡ passed a left w c → c ≡ 0 → left ≡ rs
+  none_taken rs n a left w c e z = (subst (AllLeft [] rs 0) e (all_left rs (nothing_applied n) [] 0 0)).1 z
 
 -- The ways out of the first planning.
 module _ (s : List ℕ) (view : View) (belongs : Belongs s view) (x : Term) (state w w₁ : List ℕ) where
@@ -109,36 +109,36 @@ module _ (s : List ℕ) (view : View) (belongs : Belongs s view) (x : Term) (sta
   t = table_of s
 
   abbrev meant : Meant
-  meant = first t x (readingsOf state) (usedOf state)
+  meant = first t x (readings_of state) (used_of state)
 
-  recovers-is : t.recovers ≡ view.recovers
+  recovers_is : t.recovers ≡ view.recovers
   unfolding table_of
-  recovers-is = sym (ap (λ (v : View). v.recovers) belongs.is)
+  recovers_is = sym (ap (λ (v : View). v.recovers) belongs.is)
 
-  by-pass : (p : MeantPass) → passOver t x state ≡ p → meant ≡ firstOfPass t p
-  by-pass p e = one-pass t x (readingsOf state) (usedOf state) ∙ ap (firstOfPass t) e
+  by_pass : (p : MeantPass) → pass_over t x state ≡ p → meant ≡ first_of_pass t p
+  by_pass p e = one_pass_lem t x (readings_of state) (used_of state) ∙ ap (first_of_pass t) e
 
-  module _ (q : Pass) (h : PassIs state w (passOver t x state) w₁ q) where
-    pub first-refused : (k : Refusal) → q ≡ pass.Stopped k → meant ≡ refuses k
-    first-refused k f = let g : Stops w (passOver t x state) k w₁ = subst (PassIs state w (passOver t x state) w₁) f h in by-pass (stopped k) g.is
+  module _ (q : Pass) (h : PassIs state w (pass_over t x state) w₁ q) where
+    pub first_refused : (k : Refusal) → q ≡ pass.Stopped k → meant ≡ refuses k
+    first_refused k f = let g : Stops w (pass_over t x state) k w₁ = subst (PassIs state w (pass_over t x state) w₁) f h in by_pass (stopped k) g.is
 
     module _ (so : SoFar) (left : ℕ) (f : q ≡ pass.Passed so left) where
-      passes : Passes state (passOver t x state) w₁ so left
-      passes = subst (PassIs state w (passOver t x state) w₁) f h
+      passes : Passes state (pass_over t x state) w₁ so left
+      passes = subst (PassIs state w (pass_over t x state) w₁) f h
 
-      pub settle-ready : EndReady w₁ so left
-      settle-ready =
+      pub settle_ready : EndReady w₁ so left
+      settle_ready =
           let a = passes.stands.paced.both in let b = passes.stands.paced.chains in let c = passes.stands.few in let v = passes.stands.walked in
           record {
             area = passes.stands.area;
-            lefts = all-stand-kept (usedOf state) w₁ w₁ (λ d q. refl) 41920 0 left (λ j p q. refl) passes.stands.lefts so.counts.cells passes.stands.below;
+            lefts = all_stand_kept (used_of state) w₁ w₁ (λ d q. refl) 41920 0 left (λ j p q. refl) passes.stands.lefts so.counts.cells passes.stands.below;
             few = c;
             room = omega arith;
             walked = omega arith;
           }
 
       ended : (w₂ : List ℕ) (e : Ended) → EndsWith view.recovers w₁ so left w₂ e → Settles meant w₂ e
-      ended w₂ e g = record { fed = g.fed; is = by-pass _ passes.is ∙ g.is t recovers-is; holds = g.holds }
+      ended w₂ e g = record { fed = g.fed; is = by_pass _ passes.is ∙ g.is t recovers_is; holds = g.holds }
 
       waits : (w₂ : List ℕ) (walked left' : ℕ) → Waits view.recovers w₁ so left w₂ walked left' → MustRecover meant state w₂ walked left'
       waits w₂ v left' g =
@@ -146,20 +146,20 @@ module _ (s : List ℕ) (view : View) (belongs : Belongs s view) (x : Term) (sta
           let p = st.paced in
           let none = g.none in
           let results = p.results in let both = p.both in
-          let counts-are : so.counts ≡ record { cells = usedOf state; results = 0; errors = 0 } =
-          (let a : so.counts.cells ≡ usedOf state = p.unborn none in let b : so.counts.results ≡ 0 = omega arith in let c : so.counts.errors ≡ 0 = omega arith in λ i. record { cells = a i; results = b i; errors = c i }) in
-          let few = st.walked in let is = g.walked-is in
+          let counts-are : so.counts ≡ record { cells = used_of state; results = 0; errors = 0 } =
+          (let a : so.counts.cells ≡ used_of state = p.unborn none in let b : so.counts.results ≡ 0 = omega arith in let c : so.counts.errors ≡ 0 = omega arith in λ i. record { cells = a i; results = b i; errors = c i }) in
+          let few = st.walked in let is = g.walked_is in
           record {
-            is = by-pass _ passes.is ∙ g.is t recovers-is;
+            is = by_pass _ passes.is ∙ g.is t recovers_is;
             loaded = rw g.same st.loaded;
             area = rw g.same (subst (Area 41824 w₁) counts-are st.area);
             lefts = rw (g.same, g.left_is) st.lefts;
-            left_is = rw (g.same, g.left_is) (none-taken t x (reverse (readingsOf state)) (usedOf state) _ _ _ _ passes.is none);
+            left_is = rw (g.same, g.left_is) (none_taken t x (reverse (readings_of state)) (used_of state) _ _ _ _ passes.is none);
             few = rw g.left_is st.few;
-            few-walked = omega arith;
+            few_walked = omega arith;
           }
 
-      pub first-settled : (w₂ : List ℕ) (o : First) → SettledIs view.recovers w₁ so left w₂ o → FirstIs meant state w₂ o
-      first-settled w₂ (at_first.Refused k) g = absurd g
-      first-settled w₂ (at_first.Ended e) g = ended w₂ e g
-      first-settled w₂ (at_first.Recovers v left') g = waits w₂ v left' g
+      pub first_settled : (w₂ : List ℕ) (o : First) → SettledIs view.recovers w₁ so left w₂ o → FirstIs meant state w₂ o
+      first_settled w₂ (at_first.Refused k) g = absurd g
+      first_settled w₂ (at_first.Ended e) g = ended w₂ e g
+      first_settled w₂ (at_first.Recovers v left') g = waits w₂ v left' g

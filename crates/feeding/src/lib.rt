@@ -1,12 +1,12 @@
 // Feeding, the first planning: one pass over the readings, last to first, in which each takes the term or is left; and what it comes to.
 ghost use Rattle.std.specs.Prelude.{◌≡◌, ◌+◌, ◌*◌, ◌≤◌, length};
 ghost use Rattle.meaning.specs.TableFile.{table_of};
-ghost use Rattle.meaning.specs.Feeding.{someTook, noneTook, first};
-ghost use Rattle.state.specs.Layout.{resultsAt, left_at, slotSize};
-ghost use Rattle.state.specs.Readings.{putSlot, usedOf, readingsOf, resultsOf};
+ghost use Rattle.meaning.specs.Feeding.{some_took, none_took, first};
+ghost use Rattle.state.specs.Layout.{results_at, left_at, slot_size};
+ghost use Rattle.state.specs.Readings.{put_slot, used_of, readings_of, results_of};
 ghost use Rattle.taking.specs.Stages.{made_of};
-ghost use Rattle.feeding.specs.Ending.{Holds, EndReady, SettledIs, FirstReady, passOver, FirstIs};
-ghost use Rattle.feeding.specs.Passing.{PassReady, PassIs, passFrom};
+ghost use Rattle.feeding.specs.Ending.{Holds, EndReady, SettledIs, FirstReady, pass_over, FirstIs};
+ghost use Rattle.feeding.specs.Passing.{PassReady, PassIs, pass_from};
 
 use actions::{Counts, Top};
 use meaning::{Refusal, Term, View};
@@ -48,8 +48,8 @@ enum Pass {
 
 // A reading that could not be planned goes behind those left before it.
 fn put_left(work: &mut [u8], left: u16, reading: Top)
-    requires { left_at + slotSize * left + slotSize ≤ length work.old }
-    ensures { work.new ≡ putSlot work.old left_at left (record { top = reading.cell; mark = reading.mark }) }
+    requires { left_at + slot_size * left + slot_size ≤ length work.old }
+    ensures { work.new ≡ put_slot work.old left_at left (record { top = reading.cell; mark = reading.mark }) }
 {
     let top = reading.cell;
     state::put_slot(
@@ -75,7 +75,7 @@ fn pass_from(
     left: u16,
 ) -> Pass
     requires { PassReady table.now view state.now work.old i so left }
-    ensures { PassIs state.now work.old (passFrom (table_of table.now) term state.now work.old i so left) work.new result }
+    ensures { PassIs state.now work.old (pass_from (table_of table.now) term state.now work.old i so left) work.new result }
 {
     if i == 0 {
         return Pass::Passed { so, left };
@@ -104,7 +104,7 @@ fn pass_from(
 // The pass over a state whose cells in use were loaded.
 fn pass_over(table: &[u8], view: View, state: &[u8], work: &mut [u8], term: Term) -> Pass
     requires { FirstReady table.now view state.now work.old }
-    ensures { PassIs state.now work.old (passOver (table_of table.now) term state.now) work.new result }
+    ensures { PassIs state.now work.old (pass_over (table_of table.now) term state.now) work.new result }
 {
     let so = SoFar {
         counts: Counts {
@@ -130,7 +130,7 @@ fn pass_over(table: &[u8], view: View, state: &[u8], work: &mut [u8], term: Term
 // Some chain succeeded: the readings left get an error record each, first to last.
 fn some_took(work: &mut [u8], so: SoFar, left: u16) -> Ended
     requires { EndReady work.old so left }
-    ensures { Holds work.new result (someTook (resultsOf work.old left_at left) so.walked (made_of resultsAt work.old so.counts)) }
+    ensures { Holds work.new result (some_took (results_of work.old left_at left) so.walked (made_of results_at work.old so.counts)) }
 {
     let counts = so.counts;
     let errors = unplanned::put_reversed(&mut *work, left, counts.errors);
@@ -149,7 +149,7 @@ fn some_took(work: &mut [u8], so: SoFar, left: u16) -> Ended
 // None did: the readings left stay, in reversed order, and get an error record each, last to first.
 fn none_took(work: &mut [u8], so: SoFar, left: u16) -> Ended
     requires { EndReady work.old so left }
-    ensures { Holds work.new result (noneTook (resultsOf work.old left_at left) so.walked (made_of resultsAt work.old so.counts)) }
+    ensures { Holds work.new result (none_took (results_of work.old left_at left) so.walked (made_of results_at work.old so.counts)) }
 {
     let counts = so.counts;
     let errors = unplanned::put_in_order(&mut *work, 0, left, counts.errors);
@@ -188,7 +188,7 @@ fn settle(work: &mut [u8], recovers: bool, so: SoFar, left: u16) -> First
 // The first planning of a feed.
 pub fn first_planning(table: &[u8], view: View, state: &[u8], work: &mut [u8], term: Term) -> First
     requires { FirstReady table.now view state.now work.old }
-    ensures { FirstIs (first (table_of table.now) term (readingsOf state.now) (usedOf state.now)) state.now work.new result }
+    ensures { FirstIs (first (table_of table.now) term (readings_of state.now) (used_of state.now)) state.now work.new result }
 {
     match pass_over(table, view, state, &mut *work, term) {
         Pass::Stopped(refusal) => First::Refused(refusal),

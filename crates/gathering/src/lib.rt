@@ -1,15 +1,15 @@
 // The error records that a feed left in the work area, read out by value, once.
 ghost use Rattle.std.specs.Prelude.{◌≡◌, ◌≤◌, length};
-ghost use Rattle.meaning.specs.Limits.{maxErrors};
-ghost use Rattle.state.specs.Layout.{workLength};
-ghost use Rattle.gathering.specs.Gathering.{noErrors, Gathered};
+ghost use Rattle.meaning.specs.Limits.{max_errors};
+ghost use Rattle.state.specs.Layout.{work_len};
+ghost use Rattle.gathering.specs.Gathering.{no_errors, Gathered};
 
 use lists::Errors;
 use meaning::{ErrorRecord, MAX_ERRORS, StateNo};
 
 // What a refused feed hands back.
 pub fn no_errors() -> Errors
-    ensures { result ≡ noErrors }
+    ensures { result ≡ no_errors }
 {
     let none = ErrorRecord {
         rule: 0,
@@ -22,7 +22,7 @@ pub fn no_errors() -> Errors
 
 // The first records of the work area.
 pub fn errors_of(work: &[u8], count: u16) -> Errors
-    requires { (length work.now ≡ workLength) × (count ≤ maxErrors) }
+    requires { (length work.now ≡ work_len) × (count ≤ max_errors) }
     ensures { Gathered work.now count result }
 {
     let none = ErrorRecord {

@@ -10,11 +10,11 @@ use denote.Array.{Array, each}
 use denote.Struct.Declared.{Declared, row, field}
 
 module _ (T : Declared) where
-  each-field : (zs : List T.D) (us : List Val) → shadow (each T.D (row T).own_val zs us) → shadow (each (field T).row.Denot (field T).row.own_val (map T.to zs) us)
-  each-field [] [] h = tt
-  each-field [] (u ∷ us) h = absurd h
-  each-field (z ∷ zs) [] h = absurd h
-  each-field (z ∷ zs) (u ∷ us) h = (h.0, each-field zs us h.1)
+  each_field : (zs : List T.D) (us : List Val) → shadow (each T.D (row T).own_val zs us) → shadow (each (field T).row.Denot (field T).row.own_val (map T.to zs) us)
+  each_field [] [] h = tt
+  each_field [] (u ∷ us) h = absurd h
+  each_field (z ∷ zs) [] h = absurd h
+  each_field (z ∷ zs) (u ∷ us) h = (h.0, each_field zs us h.1)
 
-  pub list-field : (n : ℕ) (zs : List T.D) (vs : List Val) → Is (Array (row T) n) zs vs → Is (Array (field T).row n) (map T.to zs) vs
-  list-field n zs vs is = (is.0, ((is.1.0.0, length-map zs T.to ∙ is.1.0.1), each-field zs is.0 is.1.1))
+  pub list_field : (n : ℕ) (zs : List T.D) (vs : List Val) → Is (Array (row T) n) zs vs → Is (Array (field T).row n) (map T.to zs) vs
+  list_field n zs vs is = (is.0, ((is.1.0.0, length-map zs T.to ∙ is.1.0.1), each_field zs is.0 is.1.1))

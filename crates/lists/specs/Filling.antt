@@ -2,16 +2,16 @@
 use Rattle.std.specs.Prelude.{ℕ, ◌≤◌, ◌≡◌, List, ◌++◌, eqb, leb, length, take, drop, replicate}
 use Rattle.meaning.specs.Basics.{if◌then◌else◌}
 use Rattle.meaning.specs.Calls.{written}
-use Rattle.meaning.specs.TableFile.{stateNo}
+use Rattle.meaning.specs.TableFile.{state_no}
 use Rattle.meaning.specs.declared.ErrorRecord.{ErrorRecord}
 use Rattle.meaning.specs.declared.Entry.{Entry}
 
 -- what a place of a list by value holds where it holds nothing, and what is read past the end of a list
-abbrev pub noRecord : ErrorRecord
-noRecord = record { rule = 0; state = stateNo 0; mark = 0 }
+abbrev pub no_record : ErrorRecord
+no_record = record { rule = 0; state = state_no 0; mark = 0 }
 
-abbrev pub noEntry : Entry
-noEntry = record { state = stateNo 0; value = 0; start = 0; end = 0 }
+abbrev pub no_entry : Entry
+no_entry = record { state = state_no 0; value = 0; start = 0; end = 0 }
 
 -- these, and then `none` in every place past them
 abbrev pub padded : {A : Type 0} → (places : ℕ) → (none : A) → List A → List A
@@ -19,9 +19,9 @@ padded places none es = written es (replicate places none)
 
 -- A list by value holds exactly these, and `none` in every other place.
 pub record ByValue {A : Type 0} (places : ℕ) (none : A) (es : List A) (list : List A) (count : ℕ) : Type 0 where
-  pub count-is : count ≡ length es
+  pub count_is : count ≡ length es
   pub few : count ≤ places
-  pub list-is : list ≡ padded places none es
+  pub list_is : list ≡ padded places none es
 
 -- how many are stored: all where the lent list has as many places as it must have, none where it has not
 abbrev pub stored : (places len count : ℕ) → ℕ

@@ -1,10 +1,10 @@
 // The questions on buffers of the right lengths, over the marks' part of the work area. Private: only `Machine` calls them, and it has looked at the lengths.
 ghost use Rattle.std.specs.Prelude.{◌≡◌, true};
-ghost use Rattle.meaning.specs.Calls.{takesRight, takesCall, canEndCall, canRecoverCall};
+ghost use Rattle.meaning.specs.Calls.{takes_right, takes_call, can_end_call, can_recover_call};
 ghost use Rattle.meaning.specs.TableFile.{table_of};
-ghost use Rattle.state.specs.Readings.{readingsOf};
+ghost use Rattle.state.specs.Readings.{readings_of};
 ghost use Rattle.questions.specs.Asking.{AsksState};
-ghost use Rattle.promises.specs.Buffers.{stateFor};
+ghost use Rattle.promises.specs.Buffers.{state_for};
 ghost use Rattle.machine.specs.Lines.{AsksLine};
 
 use checks::{Found, find};
@@ -19,7 +19,7 @@ fn takes_right(
     marks: &mut [u8],
 ) -> QuestionAnswer
     requires { AsksState table.now view state.now marks.old }
-    ensures { result ≡ takesRight (table_of table.now) class (readingsOf state.now) }
+    ensures { result ≡ takes_right (table_of table.now) class (readings_of state.now) }
 {
     if state::reading_count(state) == 0 {
         return QuestionAnswer::No;
@@ -35,7 +35,7 @@ fn takes_right(
 
 pub(super) fn takes(table: &[u8], state: &[u8], marks: &mut [u8], class: u16) -> QuestionAnswer
     requires { AsksLine state.now marks.old }
-    ensures { result ≡ takesCall true table.now (stateFor table.now state.now) class }
+    ensures { result ≡ takes_call true table.now (state_for table.now state.now) class }
 {
     match find(table, state) {
         Found::Refused(refusal) => QuestionAnswer::Refused(refusal),
@@ -45,7 +45,7 @@ pub(super) fn takes(table: &[u8], state: &[u8], marks: &mut [u8], class: u16) ->
 
 pub(super) fn can_end(table: &[u8], state: &[u8], marks: &mut [u8]) -> QuestionAnswer
     requires { AsksLine state.now marks.old }
-    ensures { result ≡ canEndCall true table.now (stateFor table.now state.now) }
+    ensures { result ≡ can_end_call true table.now (state_for table.now state.now) }
 {
     match find(table, state) {
         Found::Refused(refusal) => QuestionAnswer::Refused(refusal),
@@ -55,7 +55,7 @@ pub(super) fn can_end(table: &[u8], state: &[u8], marks: &mut [u8]) -> QuestionA
 
 pub(super) fn can_recover(table: &[u8], state: &[u8], marks: &mut [u8]) -> QuestionAnswer
     requires { AsksLine state.now marks.old }
-    ensures { result ≡ canRecoverCall true table.now (stateFor table.now state.now) }
+    ensures { result ≡ can_recover_call true table.now (state_for table.now state.now) }
 {
     match find(table, state) {
         Found::Refused(refusal) => QuestionAnswer::Refused(refusal),

@@ -1,7 +1,7 @@
 // The reading machine: its limits and its calls. Nothing else is for users.
 ghost use Rattle.std.specs.Prelude.{◌≡◌};
 ghost use Rattle.machine.specs.Limits.{limits};
-ghost use Rattle.promises.specs.Calls.{StartPromise, takesOn, canEndOn, canRecoverOn, QuestionPromise, StackPromise, FeedPromise};
+ghost use Rattle.promises.specs.Calls.{StartPromise, takes_on, can_end_on, can_recover_on, QuestionPromise, StackPromise, FeedPromise};
 
 use meaning::{
     Entry, ErrorRecord, FeedAnswer, QuestionAnswer, Refusal, StackAnswer, StartAnswer, Term,
@@ -87,7 +87,7 @@ impl Machine {
 
     // Would a term of this class be taken?
     pub fn takes(table: &[u8], state: &[u8], work: &mut [u8], class: u16) -> QuestionAnswer
-        ensures { QuestionPromise (takesOn table.now state.now class) state.now work.old result work.new }
+        ensures { QuestionPromise (takes_on table.now state.now class) state.now work.old result work.new }
     {
         if checks::lengths_right(state, work) {
             let answer = asking::takes(
@@ -104,7 +104,7 @@ impl Machine {
 
     // Can the line end here?
     pub fn can_end(table: &[u8], state: &[u8], work: &mut [u8]) -> QuestionAnswer
-        ensures { QuestionPromise (canEndOn table.now state.now) state.now work.old result work.new }
+        ensures { QuestionPromise (can_end_on table.now state.now) state.now work.old result work.new }
     {
         if checks::lengths_right(state, work) {
             let answer = asking::can_end(
@@ -120,7 +120,7 @@ impl Machine {
 
     // Would recovery find a height to go on from?
     pub fn can_recover(table: &[u8], state: &[u8], work: &mut [u8]) -> QuestionAnswer
-        ensures { QuestionPromise (canRecoverOn table.now state.now) state.now work.old result work.new }
+        ensures { QuestionPromise (can_recover_on table.now state.now) state.now work.old result work.new }
     {
         if checks::lengths_right(state, work) {
             let answer = asking::can_recover(

@@ -5,12 +5,12 @@ use mathlib.Core.List.{List, [], ◌∷◌}
 use lib.Dec.{ltb}
 use lib.ListN.{length, get_or, drop}
 use Rattle.meaning.specs.Basics.{both, Maybe, nothing, just}
-use Rattle.meaning.specs.TableFile.{Table, ActionRecord, actionOf, gotoOf, ruleOf}
+use Rattle.meaning.specs.TableFile.{Table, ActionRecord, action_of, goto_of, rule_of}
 use Rattle.meaning.specs.TableRight.{shifts}
-use Rattle.meaning.specs.Chains.{recordAt}
-use Rattle.meaning.specs.Walk.{Walk, shift, reduce, Walked, refused, walked, endChain, walkRules, walkState, walkFrom, plan}
+use Rattle.meaning.specs.Chains.{record_at}
+use Rattle.meaning.specs.Walk.{Walk, shift, reduce, Walked, refused, walked, end_chain, walk_rules, walk_state, walk_from, plan}
 use Rattle.meaning.specs.declared.Refusal.TheVariants.{TooHigh, ChainTooLong, TooManyReadings}
-use Rattle.meaning.proofs.Trees.{refused-not, if-not, if_yes, reduces, walk_of}
+use Rattle.meaning.proofs.Trees.{refused_not, if_not, if_yes, reduces, walk_of}
 
 -- R holds of every target of the walk
 abbrev pub Leads : (ℕ → Type 0) → Walk → Type 0
@@ -20,49 +20,49 @@ Leads R (reduce k to below beside) = R to × Leads R below × Leads R beside
 
 -- R holds of every target in the table
 pub record TargetsIn (R : ℕ → Type 0) (t : Table) : Type 0 where
-  pub gotos : (state left to : ℕ) → gotoOf t state left ≡ just to → R to
-  pub shifted : (state class to : ℕ) → (actionOf t state class).shift ≡ just to → R to
+  pub gotos : (state left to : ℕ) → goto_of t state left ≡ just to → R to
+  pub shifted : (state class to : ℕ) → (action_of t state class).shift ≡ just to → R to
 
 module _ (R : ℕ → Type 0) (t : Table) (targets : TargetsIn R t) where
   abbrev Shifts : Maybe ℕ → Type 0
   Shifts sh = (to : ℕ) → sh ≡ just to → R to
 
-  end-leads : (room : ℕ) (sh : Maybe ℕ) (n c : ℕ) (w : Walk) (n' c' : ℕ) → Shifts sh → endChain room sh n c ≡ walked w n' c' → Leads R w
-  unfolding endChain
-  end-leads room nothing n c w n' c' s e = subst (Leads R) (ap walk_of e) tt
-  end-leads room (just to) n c w n' c' s e = subst (Leads R) (ap walk_of (if_yes (ltb c room) TooManyReadings (walked (shift (just to)) n (c + 1)) e).1) (s to refl)
+  end_leads : (room : ℕ) (sh : Maybe ℕ) (n c : ℕ) (w : Walk) (n' c' : ℕ) → Shifts sh → end_chain room sh n c ≡ walked w n' c' → Leads R w
+  unfolding end_chain
+  end_leads room nothing n c w n' c' s e = subst (Leads R) (ap walk_of e) tt
+  end_leads room (just to) n c w n' c' s e = subst (Leads R) (ap walk_of (if_yes (ltb c room) TooManyReadings (walked (shift (just to)) n (c + 1)) e).1) (s to refl)
 
   abbrev LeadsFrom : (List ℕ → ℕ → ℕ → Walked) → Type 0
   LeadsFrom deeper = (st : List ℕ) (n c : ℕ) (w : Walk) (n' c' : ℕ) → deeper st n c ≡ walked w n' c' → Leads R w
 
-  rules-lead : (room left : ℕ) (deeper : List ℕ → ℕ → ℕ → Walked) → LeadsFrom deeper → (sh : Maybe ℕ) → Shifts sh → (st ks : List ℕ) (n c : ℕ) (w : Walk) (n' c' : ℕ)
-      → walkRules t room left deeper sh st ks n c ≡ walked w n' c' → Leads R w
-  unfolding walkRules
-  rules-lead room left deeper go sh s st [] n c w n' c' e = end-leads room sh n c w n' c' s e
-  rules-lead room left deeper go sh s st (k ∷ ks) n c w n' c' e =
+  rules_lead : (room left : ℕ) (deeper : List ℕ → ℕ → ℕ → Walked) → LeadsFrom deeper → (sh : Maybe ℕ) → Shifts sh → (st ks : List ℕ) (n c : ℕ) (w : Walk) (n' c' : ℕ)
+      → walk_rules t room left deeper sh st ks n c ≡ walked w n' c' → Leads R w
+  unfolding walk_rules
+  rules_lead room left deeper go sh s st [] n c w n' c' e = end_leads room sh n c w n' c' s e
+  rules_lead room left deeper go sh s st (k ∷ ks) n c w n' c' e =
       let v = reduces t room left deeper sh st k ks n c w n' c' e in
       let z = v.below in
       let y = v.beside in
       subst (Leads R) (ap walk_of v.all) (
-        targets.gotos (get_or (drop (ruleOf t k).len st) 0 0) (ruleOf t k).left v.to v.leads,
-        go (v.to ∷ drop (ruleOf t k).len st) (n + 1) c z.w z.n z.c z.is,
-        rules-lead room left deeper go sh s st ks z.n z.c y.w y.n y.c y.is,
+        targets.gotos (get_or (drop (rule_of t k).len st) 0 0) (rule_of t k).left v.to v.leads,
+        go (v.to ∷ drop (rule_of t k).len st) (n + 1) c z.w z.n z.c z.is,
+        rules_lead room left deeper go sh s st ks z.n z.c y.w y.n y.c y.is,
       )
 
-  state-leads : (room left class : ℕ) (deeper : List ℕ → ℕ → ℕ → Walked) → LeadsFrom deeper → (st : List ℕ) (n c : ℕ) (w : Walk) (n' c' : ℕ)
-      → walkState t room left deeper (recordAt t class st) st n c ≡ walked w n' c' → Leads R w
-  unfolding walkState recordAt
-  state-leads room left class deeper go st n c w n' c' e =
-      let a : ActionRecord = recordAt t class st in
-      let f = if-not (both (shifts a.shift) (ltb 64 (length st + 1))) TooHigh (walkRules t room left deeper a.shift st a.rules n c) e in
-      rules-lead room left deeper go a.shift (targets.shifted (get_or st 0 0) class) st a.rules n c w n' c' f.1
+  state_leads : (room left class : ℕ) (deeper : List ℕ → ℕ → ℕ → Walked) → LeadsFrom deeper → (st : List ℕ) (n c : ℕ) (w : Walk) (n' c' : ℕ)
+      → walk_state t room left deeper (record_at t class st) st n c ≡ walked w n' c' → Leads R w
+  unfolding walk_state record_at
+  state_leads room left class deeper go st n c w n' c' e =
+      let a : ActionRecord = record_at t class st in
+      let f = if_not (both (shifts a.shift) (ltb 64 (length st + 1))) TooHigh (walk_rules t room left deeper a.shift st a.rules n c) e in
+      rules_lead room left deeper go a.shift (targets.shifted (get_or st 0 0) class) st a.rules n c w n' c' f.1
 
-  walk-leads : (left room class : ℕ) → LeadsFrom (walkFrom left t room class)
-  unfolding walkFrom
-  walk-leads zero room class st n c w n' c' e = state-leads room 0 class (λ st' m d. refused ChainTooLong) (λ s m d v m' d' f. refused-not f) st n c w n' c' e
-  walk-leads (suc left) room class st n c w n' c' e =
-      state-leads room (suc left) class (λ st' m d. walkFrom left t room class st' m d) (λ s m d v m' d' f. walk-leads left room class s m d v m' d' f) st n c w n' c' e
+  walk_leads : (left room class : ℕ) → LeadsFrom (walk_from left t room class)
+  unfolding walk_from
+  walk_leads zero room class st n c w n' c' e = state_leads room 0 class (λ st' m d. refused ChainTooLong) (λ s m d v m' d' f. refused_not f) st n c w n' c' e
+  walk_leads (suc left) room class st n c w n' c' e =
+      state_leads room (suc left) class (λ st' m d. walk_from left t room class st' m d) (λ s m d v m' d' f. walk_leads left room class s m d v m' d' f) st n c w n' c' e
 
-  pub plan-leads : (room class : ℕ) (st : List ℕ) (c : ℕ) (w : Walk) (k c' : ℕ) → plan t room class st c ≡ walked w k c' → Leads R w
+  pub plan_leads : (room class : ℕ) (st : List ℕ) (c : ℕ) (w : Walk) (k c' : ℕ) → plan t room class st c ≡ walked w k c' → Leads R w
   unfolding plan
-  plan-leads room class st c w k c' e = walk-leads 32 room class st 0 c w k c' e
+  plan_leads room class st c w k c' e = walk_leads 32 room class st 0 c w k c' e

@@ -4,22 +4,22 @@ use mathlib.Core.Path.{◌≡◌, refl, sym, ap, ap₂, ◌∙◌, subst}
 use mathlib.Core.List.{List, [], ◌∷◌, ◌++◌, map}
 use mathlib.Core.Bool.{Bool, true, false}
 use Rattle.meaning.specs.Basics.{if◌then◌else◌, Maybe, nothing, just, listed}
-use Rattle.meaning.specs.TableFile.{Table, ruleOf}
+use Rattle.meaning.specs.TableFile.{Table, rule_of}
 use Rattle.meaning.specs.Readings.{Reading, plain}
 use Rattle.meaning.specs.Walk.{Walk, shift, reduce, ends}
-use Rattle.meaning.specs.Applying.{actOn, reduced, shifted, refusedAction, Applied, nothingApplied, oneError, ifActs, apply}
+use Rattle.meaning.specs.Applying.{act_on, reduced, shifted, refused_action, Applied, nothing_applied, one_error, if_acts, apply}
 use Rattle.meaning.specs.declared.Rule.{Rule}
 use Rattle.meaning.specs.declared.Term.{Term}
 use Rattle.meaning.specs.declared.ErrorRecord.{ErrorRecord}
-use Rattle.meaning.proofs.Renamed.{act-ren, reduced-ren, refused-ren}
-use Rattle.meaning.proofs.Booleans.{IsTrue, either-false}
-use Rattle.meaning.proofs.Tools.{map-append}
+use Rattle.meaning.proofs.Renamed.{act_ren, reduced_ren, refused_ren}
+use Rattle.meaning.proofs.Booleans.{IsTrue, either_false}
+use Rattle.meaning.proofs.Tools.{map_append}
 
 -- the readings that a walk gives; a dead end gives none by itself
 abbrev pub got : Table → Term → Walk → Reading → List Reading
 got t x (shift s) r = listed s (λ to. shifted x to r 0 ∷ [])
 got t x (reduce k to below beside) r =
-    listed (actOn (ruleOf t k) r.stack) (λ v. got t x below (reduced (ruleOf t k) to v r 0)) ++ got t x beside r
+    listed (act_on (rule_of t k) r.stack) (λ v. got t x below (reduced (rule_of t k) to v r 0)) ++ got t x beside r
 
 abbrev pub or_else : {A B : Type 0} → Maybe A → (A → List B) → List B → List B
 or_else nothing f l = l
@@ -29,65 +29,65 @@ or_else (just a) f l = f a
 abbrev pub errs : Table → Term → Walk → Reading → List ErrorRecord
 errs t x (shift s) r = []
 errs t x (reduce k to below beside) r =
-    (if ends below then or_else (actOn (ruleOf t k) r.stack) (λ v. errs t x below (reduced (ruleOf t k) to v r 0)) (refusedAction t k r ∷ []) else []) ++ errs t x beside r
+    (if ends below then or_else (act_on (rule_of t k) r.stack) (λ v. errs t x below (reduced (rule_of t k) to v r 0)) (refused_action t k r ∷ []) else []) ++ errs t x beside r
 
 -- a walk in which no chain ends gives nothing
-pub got-none : (t : Table) (x : Term) (w : Walk) (r : Reading) → ends w ≡ false → got t x w r ≡ []
+pub got_none : (t : Table) (x : Term) (w : Walk) (r : Reading) → ends w ≡ false → got t x w r ≡ []
 unfolding ends
-got-none t x (shift nothing) r e = refl
-got-none t x (shift (just to)) r e = absurd (subst IsTrue e tt)
-got-none t x (reduce k to below beside) r e =
+got_none t x (shift nothing) r e = refl
+got_none t x (shift (just to)) r e = absurd (subst IsTrue e tt)
+got_none t x (reduce k to below beside) r e =
     ap₂ {C = List Reading} (λ a b. a ++ b)
-    (none (actOn (ruleOf t k) r.stack) (λ v. got-none t x below (reduced (ruleOf t k) to v r 0) (either-false (ends below) (ends beside) e).0))
-    (got-none t x beside r (either-false (ends below) (ends beside) e).1)
+    (none (act_on (rule_of t k) r.stack) (λ v. got_none t x below (reduced (rule_of t k) to v r 0) (either_false (ends below) (ends beside) e).0))
+    (got_none t x beside r (either_false (ends below) (ends beside) e).1)
   where
-    none : (m : Maybe ℕ) → ((v : ℕ) → got t x below (reduced (ruleOf t k) to v r 0) ≡ []) → listed m (λ v. got t x below (reduced (ruleOf t k) to v r 0)) ≡ []
+    none : (m : Maybe ℕ) → ((v : ℕ) → got t x below (reduced (rule_of t k) to v r 0) ≡ []) → listed m (λ v. got t x below (reduced (rule_of t k) to v r 0)) ≡ []
     none nothing h = refl
     none (just v) h = h v
 
-pub errs-none : (t : Table) (x : Term) (w : Walk) (r : Reading) → ends w ≡ false → errs t x w r ≡ []
+pub errs_none : (t : Table) (x : Term) (w : Walk) (r : Reading) → ends w ≡ false → errs t x w r ≡ []
 unfolding ends
-errs-none t x (shift s) r e = refl
-errs-none t x (reduce k to below beside) r e =
+errs_none t x (shift s) r e = refl
+errs_none t x (reduce k to below beside) r e =
     ap₂ {C = List ErrorRecord} (λ a b. a ++ b)
-    (ap (λ (b : Bool). if b then or_else (actOn (ruleOf t k) r.stack) (λ v. errs t x below (reduced (ruleOf t k) to v r 0)) (refusedAction t k r ∷ []) else []) (either-false (ends below) (ends beside) e).0)
-    (errs-none t x beside r (either-false (ends below) (ends beside) e).1)
+    (ap (λ (b : Bool). if b then or_else (act_on (rule_of t k) r.stack) (λ v. errs t x below (reduced (rule_of t k) to v r 0)) (refused_action t k r ∷ []) else []) (either_false (ends below) (ends beside) e).0)
+    (errs_none t x beside r (either_false (ends below) (ends beside) e).1)
 
-pub apply-plain : (t : Table) (x : Term) (w : Walk) (r : Reading) (n : ℕ)
+pub apply_plain : (t : Table) (x : Term) (w : Walk) (r : Reading) (n : ℕ)
     → (map plain (apply t x w r n).results ≡ got t x w (plain r)) × ((apply t x w r n).errors ≡ errs t x w (plain r))
 unfolding apply shifted
-apply-plain t x (shift nothing) r n = (refl, refl)
-apply-plain t x (shift (just to)) r n = (refl, refl)
-apply-plain t x (reduce k to below beside) r n = (
-  map-append plain (part (ends below) (actOn q r.stack)).results (apply t x beside r (part (ends below) (actOn q r.stack)).next).results
+apply_plain t x (shift nothing) r n = (refl, refl)
+apply_plain t x (shift (just to)) r n = (refl, refl)
+apply_plain t x (reduce k to below beside) r n = (
+  map_append plain (part (ends below) (act_on q r.stack)).results (apply t x beside r (part (ends below) (act_on q r.stack)).next).results
       ∙ ap₂ {C = List Reading} (λ a b. a ++ b)
-      (results (ends below) refl (actOn q r.stack) (λ v. (apply-plain t x below (red v) (n + 1)).0) ∙ ap (λ (m : Maybe ℕ). listed m (λ v. got t x below (reduced q to v (plain r) 0))) (sym (act-ren (λ b. 0) q r.stack)))
-      (apply-plain t x beside r (part (ends below) (actOn q r.stack)).next).0,
+      (results (ends below) refl (act_on q r.stack) (λ v. (apply_plain t x below (red v) (n + 1)).0) ∙ ap (λ (m : Maybe ℕ). listed m (λ v. got t x below (reduced q to v (plain r) 0))) (sym (act_ren (λ b. 0) q r.stack)))
+      (apply_plain t x beside r (part (ends below) (act_on q r.stack)).next).0,
   ap₂ {C = List ErrorRecord} (λ a b. a ++ b)
-      (errors (ends below) (actOn q r.stack) (λ v. (apply-plain t x below (red v) (n + 1)).1)
-      ∙ ap (λ (m : Maybe ℕ). if ends below then or_else m (λ v. errs t x below (reduced q to v (plain r) 0)) (refusedAction t k (plain r) ∷ []) else []) (sym (act-ren (λ b. 0) q r.stack)))
-      (apply-plain t x beside r (part (ends below) (actOn q r.stack)).next).1,
+      (errors (ends below) (act_on q r.stack) (λ v. (apply_plain t x below (red v) (n + 1)).1)
+      ∙ ap (λ (m : Maybe ℕ). if ends below then or_else m (λ v. errs t x below (reduced q to v (plain r) 0)) (refused_action t k (plain r) ∷ []) else []) (sym (act_ren (λ b. 0) q r.stack)))
+      (apply_plain t x beside r (part (ends below) (act_on q r.stack)).next).1,
 )
   where
     q : Rule
-    q = ruleOf t k
+    q = rule_of t k
 
     red : ℕ → Reading
     red v = reduced q to v r n
 
     part : Bool → Maybe ℕ → Applied
-    part b m = (if b then ifActs m (λ v. apply t x below (red v) (n + 1)) (oneError (refusedAction t k r) n) else nothingApplied n)
+    part b m = (if b then if_acts m (λ v. apply t x below (red v) (n + 1)) (one_error (refused_action t k r) n) else nothing_applied n)
 
     results : (b : Bool) → ends below ≡ b → (m : Maybe ℕ) → ((v : ℕ) → map plain (apply t x below (red v) (n + 1)).results ≡ got t x below (plain (red v)))
         → map plain (part b m).results ≡ listed m (λ v. got t x below (reduced q to v (plain r) 0))
     results true e nothing h = refl
-    results true e (just v) h = h v ∙ ap (got t x below) (sym (reduced-ren (λ b. 0) q to v r n))
+    results true e (just v) h = h v ∙ ap (got t x below) (sym (reduced_ren (λ b. 0) q to v r n))
     results false e nothing h = refl
-    results false e (just v) h = sym (got-none t x below (reduced q to v (plain r) 0) e)
+    results false e (just v) h = sym (got_none t x below (reduced q to v (plain r) 0) e)
 
     errors : (b : Bool) (m : Maybe ℕ) → ((v : ℕ) → (apply t x below (red v) (n + 1)).errors ≡ errs t x below (plain (red v)))
-        → (part b m).errors ≡ (if b then or_else m (λ v. errs t x below (reduced q to v (plain r) 0)) (refusedAction t k (plain r) ∷ []) else [])
-    errors true nothing h = ap {B = List ErrorRecord} (λ e. e ∷ []) (sym (refused-ren (λ b. 0) t k r))
-    errors true (just v) h = h v ∙ ap (errs t x below) (sym (reduced-ren (λ b. 0) q to v r n))
+        → (part b m).errors ≡ (if b then or_else m (λ v. errs t x below (reduced q to v (plain r) 0)) (refused_action t k (plain r) ∷ []) else [])
+    errors true nothing h = ap {B = List ErrorRecord} (λ e. e ∷ []) (sym (refused_ren (λ b. 0) t k r))
+    errors true (just v) h = h v ∙ ap (errs t x below) (sym (reduced_ren (λ b. 0) q to v r n))
     errors false nothing h = refl
     errors false (just v) h = refl

@@ -8,12 +8,12 @@ use lib.Dec.{leb, ltb, eqb, nleb→lt, nltb→le}
 use native.Mathlib.Omega.{arith}
 use Rattle.meaning.specs.Basics.{if◌then◌else◌, both, Maybe, nothing, just}
 use Rattle.meaning.specs.Answers.{number}
-use Rattle.meaning.specs.TableFile.{Table, ActionRecord, gotoOf, ruleOf}
+use Rattle.meaning.specs.TableFile.{Table, ActionRecord, goto_of, rule_of}
 use Rattle.meaning.specs.TableRight.{shifts}
 use Rattle.meaning.specs.Readings.{Reading, states}
-use Rattle.meaning.specs.Chains.{recordAt}
-use Rattle.meaning.specs.Walk.{Walk, shift, reduce, Walked, refused, walked, and_then, endChain, orNoGoto, reduction, walkRules, walkState, walkFrom, plan, ends}
-use Rattle.meaning.specs.Questions.{enoughRoom, planned, canPlan, or_else, takes, canEnd, recoversFrom, someRecovers, canRecover}
+use Rattle.meaning.specs.Chains.{record_at}
+use Rattle.meaning.specs.Walk.{Walk, shift, reduce, Walked, refused, walked, and_then, end_chain, or_no_goto, reduction, walk_rules, walk_state, walk_from, plan, ends}
+use Rattle.meaning.specs.Questions.{enough_room, planned, can_plan, or_else, takes, can_end, recovers_from, some_recovers, can_recover}
 use Rattle.meaning.specs.declared.Rule.{Rule}
 use Rattle.meaning.specs.declared.Refusal.{Refusal}
 use Rattle.meaning.specs.declared.Refusal.TheVariants.{ReachesStart, TooHigh, ChainTooLong, WalkTooLong, TooManyReadings}
@@ -29,47 +29,47 @@ abbrev Slow : (n c : ℕ) → Walked → Type 0
 Slow n c (refused k) = From6To10 k
 Slow n c (walked w n' c') = (c' + n ≤ c + n' + 1) × (n ≤ n') × (n' ≤ 1024)
 
-if-slow : (n c : ℕ) (b : Bool) (x y : Walked) → Slow n c x → (b ≡ false → Slow n c y) → Slow n c (if b then x else y)
-if-slow n c true x y h g = h
-if-slow n c false x y h g = g refl
+if_slow : (n c : ℕ) (b : Bool) (x y : Walked) → Slow n c x → (b ≡ false → Slow n c y) → Slow n c (if b then x else y)
+if_slow n c true x y h g = h
+if_slow n c false x y h g = g refl
 
-goto-slow : (n c : ℕ) (m : Maybe ℕ) (f : ℕ → Walked) → ((to : ℕ) → Slow n c (f to)) → Slow n c (orNoGoto m f)
-goto-slow n c nothing f h = (omega arith, omega arith)
-goto-slow n c (just to) f h = h to
+goto_slow : (n c : ℕ) (m : Maybe ℕ) (f : ℕ → Walked) → ((to : ℕ) → Slow n c (f to)) → Slow n c (or_no_goto m f)
+goto_slow n c nothing f h = (omega arith, omega arith)
+goto_slow n c (just to) f h = h to
 
 -- every chain that ends finds room: there are no more chains than reductions, and at most 1,024 of these
-end-slow : (sh : Maybe ℕ) (n c : ℕ) → c ≤ n → n ≤ 1024 → Slow n c (endChain enoughRoom sh n c)
-unfolding endChain
-end-slow nothing n c l f = (omega arith, omega arith, f)
-end-slow (just to) n c l f = at (ltb c enoughRoom) refl
+end_slow : (sh : Maybe ℕ) (n c : ℕ) → c ≤ n → n ≤ 1024 → Slow n c (end_chain enough_room sh n c)
+unfolding end_chain
+end_slow nothing n c l f = (omega arith, omega arith, f)
+end_slow (just to) n c l f = at (ltb c enough_room) refl
   where
-    at : (b : Bool) → ltb c enoughRoom ≡ b → Slow n c (if b then walked (shift (just to)) n (c + 1) else refused TooManyReadings)
+    at : (b : Bool) → ltb c enough_room ≡ b → Slow n c (if b then walked (shift (just to)) n (c + 1) else refused TooManyReadings)
     at true e = (omega arith, omega arith, f)
-    at false e = let g : enoughRoom ≤ c = nltb→le c enoughRoom (is_false e) in absurd (omega arith)
+    at false e = let g : enough_room ≤ c = nltb→le c enough_room (is_false e) in absurd (omega arith)
 
 abbrev SlowFrom : (List ℕ → ℕ → ℕ → Walked) → Type 0
 SlowFrom deeper = (st : List ℕ) (n c : ℕ) → c ≤ n → n ≤ 1024 → Slow n c (deeper st n c)
 
-reduction-slow : (t : Table) (q : Rule) (st : List ℕ) (left n c : ℕ) (go : ℕ → List ℕ → Walked) → (n < 1024 → (to : ℕ) → Slow n c (go to (drop q.len st))) → Slow n c (reduction t q st left n go)
+reduction_slow : (t : Table) (q : Rule) (st : List ℕ) (left n c : ℕ) (go : ℕ → List ℕ → Walked) → (n < 1024 → (to : ℕ) → Slow n c (go to (drop q.len st))) → Slow n c (reduction t q st left n go)
 unfolding reduction
-reduction-slow t q st left n c go h =
-    if-slow n c (leb 1024 n) (refused WalkTooLong) _ (omega arith, omega arith) λ few.
-    if-slow n c (eqb left 0) (refused ChainTooLong) _ (omega arith, omega arith) λ _.
-    if-slow n c (leb (length st) q.len) (refused ReachesStart) _ (omega arith, omega arith) λ _.
-    goto-slow n c (gotoOf t (get_or (drop q.len st) 0 0) q.left) _ λ to.
-    if-slow n c (ltb 64 (length (drop q.len st) + 1)) (refused TooHigh) _ (omega arith, omega arith) λ _.
+reduction_slow t q st left n c go h =
+    if_slow n c (leb 1024 n) (refused WalkTooLong) _ (omega arith, omega arith) λ few.
+    if_slow n c (eqb left 0) (refused ChainTooLong) _ (omega arith, omega arith) λ _.
+    if_slow n c (leb (length st) q.len) (refused ReachesStart) _ (omega arith, omega arith) λ _.
+    goto_slow n c (goto_of t (get_or (drop q.len st) 0 0) q.left) _ λ to.
+    if_slow n c (ltb 64 (length (drop q.len st) + 1)) (refused TooHigh) _ (omega arith, omega arith) λ _.
     h (nleb→lt 1024 n (is_false few)) to
 
-rules-slow : (t : Table) (left : ℕ) (deeper : List ℕ → ℕ → ℕ → Walked) → SlowFrom deeper → (sh : Maybe ℕ) (st ks : List ℕ) (n c : ℕ) → c ≤ n → n ≤ 1024
-    → Slow n c (walkRules t enoughRoom left deeper sh st ks n c)
-unfolding walkRules
-rules-slow t left deeper h sh st [] n c l f = end-slow sh n c l f
-rules-slow t left deeper h sh st (k ∷ ks) n c l f =
-    reduction-slow t (ruleOf t k) st left n c _ λ less to.
-    below to (deeper (to ∷ drop (ruleOf t k).len st) (n + 1) c) (h (to ∷ drop (ruleOf t k).len st) (n + 1) c (omega arith) (omega arith)) (λ n₁ c₁ l₁ f₁. rules-slow t left deeper h sh st ks n₁ c₁ l₁ f₁)
+rules_slow : (t : Table) (left : ℕ) (deeper : List ℕ → ℕ → ℕ → Walked) → SlowFrom deeper → (sh : Maybe ℕ) (st ks : List ℕ) (n c : ℕ) → c ≤ n → n ≤ 1024
+    → Slow n c (walk_rules t enough_room left deeper sh st ks n c)
+unfolding walk_rules
+rules_slow t left deeper h sh st [] n c l f = end_slow sh n c l f
+rules_slow t left deeper h sh st (k ∷ ks) n c l f =
+    reduction_slow t (rule_of t k) st left n c _ λ less to.
+    below to (deeper (to ∷ drop (rule_of t k).len st) (n + 1) c) (h (to ∷ drop (rule_of t k).len st) (n + 1) c (omega arith) (omega arith)) (λ n₁ c₁ l₁ f₁. rules_slow t left deeper h sh st ks n₁ c₁ l₁ f₁)
   where
     others : ℕ → ℕ → Walked
-    others n₁ c₁ = walkRules t enoughRoom left deeper sh st ks n₁ c₁
+    others n₁ c₁ = walk_rules t enough_room left deeper sh st ks n₁ c₁
 
     beside : (to : ℕ) (w : Walk) (n₁ c₁ : ℕ) → (c₁ + (n + 1) ≤ c + n₁ + 1) × (n + 1 ≤ n₁) × (n₁ ≤ 1024) → (v : Walked) → Slow n₁ c₁ v → Slow n c (and_then v (λ w' n₂ c₂. walked (reduce k to w w') n₂ c₂))
     beside to w n₁ c₁ a (refused e) g = g
@@ -85,17 +85,17 @@ rules-slow t left deeper h sh st (k ∷ ks) n c l f =
         let g0 = g.0 in
         beside to w n₁ c₁ g (others n₁ c₁) (go n₁ c₁ (omega arith) g.2)
 
-state-slow : (t : Table) (left : ℕ) (deeper : List ℕ → ℕ → ℕ → Walked) → SlowFrom deeper → (a : ActionRecord) (st : List ℕ) (n c : ℕ) → c ≤ n → n ≤ 1024
-    → Slow n c (walkState t enoughRoom left deeper a st n c)
-unfolding walkState
-state-slow t left deeper h a st n c l f =
-    if-slow n c (both (shifts a.shift) (ltb 64 (length st + 1))) (refused TooHigh) _ (omega arith, omega arith) λ _.
-    rules-slow t left deeper h a.shift st a.rules n c l f
+state_slow : (t : Table) (left : ℕ) (deeper : List ℕ → ℕ → ℕ → Walked) → SlowFrom deeper → (a : ActionRecord) (st : List ℕ) (n c : ℕ) → c ≤ n → n ≤ 1024
+    → Slow n c (walk_state t enough_room left deeper a st n c)
+unfolding walk_state
+state_slow t left deeper h a st n c l f =
+    if_slow n c (both (shifts a.shift) (ltb 64 (length st + 1))) (refused TooHigh) _ (omega arith, omega arith) λ _.
+    rules_slow t left deeper h a.shift st a.rules n c l f
 
-walk-slow : (left : ℕ) (t : Table) (class : ℕ) → SlowFrom (walkFrom left t enoughRoom class)
-unfolding walkFrom
-walk-slow zero t class st n c l f = state-slow t 0 (λ st' n' c'. refused ChainTooLong) (λ st' n' c' _ _. (omega arith, omega arith)) (recordAt t class st) st n c l f
-walk-slow (suc left) t class st n c l f = state-slow t (suc left) (λ st' n' c'. walkFrom left t enoughRoom class st' n' c') (λ st' n' c' l' f'. walk-slow left t class st' n' c' l' f') (recordAt t class st) st n c l f
+walk_slow : (left : ℕ) (t : Table) (class : ℕ) → SlowFrom (walk_from left t enough_room class)
+unfolding walk_from
+walk_slow zero t class st n c l f = state_slow t 0 (λ st' n' c'. refused ChainTooLong) (λ st' n' c' _ _. (omega arith, omega arith)) (record_at t class st) st n c l f
+walk_slow (suc left) t class st n c l f = state_slow t (suc left) (λ st' n' c'. walk_from left t enough_room class st' n' c') (λ st' n' c' l' f'. walk_slow left t class st' n' c' l' f') (record_at t class st) st n c l f
 
 -- The questions.
 abbrev pub OnlyFrom6To10 : QuestionAnswer → Type 0
@@ -103,46 +103,46 @@ OnlyFrom6To10 Yes = Unit {0}
 OnlyFrom6To10 No = Unit {0}
 OnlyFrom6To10 (Refused k) = From6To10 k
 
-or-only : (a b : QuestionAnswer) → OnlyFrom6To10 a → OnlyFrom6To10 b → OnlyFrom6To10 (or_else a b)
-or-only Yes b h g = tt
-or-only No b h g = g
-or-only (Refused k) b h g = h
+or_only : (a b : QuestionAnswer) → OnlyFrom6To10 a → OnlyFrom6To10 b → OnlyFrom6To10 (or_else a b)
+or_only Yes b h g = tt
+or_only No b h g = g
+or_only (Refused k) b h g = h
 
-plan-only : (t : Table) (class : ℕ) (st : List ℕ) → OnlyFrom6To10 (canPlan t class st)
-unfolding canPlan plan
-plan-only t class st = at (walkFrom 32 t enoughRoom class st 0 0) (walk-slow 32 t class st 0 0 (omega arith) (omega arith))
+plan_only : (t : Table) (class : ℕ) (st : List ℕ) → OnlyFrom6To10 (can_plan t class st)
+unfolding can_plan plan
+plan_only t class st = at (walk_from 32 t enough_room class st 0 0) (walk_slow 32 t class st 0 0 (omega arith) (omega arith))
   where
-    yes-no : (b : Bool) → OnlyFrom6To10 (if b then Yes else No)
-    yes-no true = tt
-    yes-no false = tt
+    yes_no : (b : Bool) → OnlyFrom6To10 (if b then Yes else No)
+    yes_no true = tt
+    yes_no false = tt
 
     at : (v : Walked) → Slow 0 0 v → OnlyFrom6To10 (planned v)
     at (refused k) h = h
-    at (walked w n c) h = yes-no (ends w)
+    at (walked w n c) h = yes_no (ends w)
 
-pub takes-only : (t : Table) (class : ℕ) (rs : List Reading) → OnlyFrom6To10 (takes t class rs)
+pub takes_only : (t : Table) (class : ℕ) (rs : List Reading) → OnlyFrom6To10 (takes t class rs)
 unfolding takes
-takes-only t class [] = tt
-takes-only t class (r ∷ rs) = or-only (canPlan t class (states r.stack)) (takes t class rs) (plan-only t class (states r.stack)) (takes-only t class rs)
+takes_only t class [] = tt
+takes_only t class (r ∷ rs) = or_only (can_plan t class (states r.stack)) (takes t class rs) (plan_only t class (states r.stack)) (takes_only t class rs)
 
-pub canEnd-only : (t : Table) (rs : List Reading) → OnlyFrom6To10 (canEnd t rs)
-unfolding canEnd
-canEnd-only t rs = takes-only t 0 rs
+pub can_end_only : (t : Table) (rs : List Reading) → OnlyFrom6To10 (can_end t rs)
+unfolding can_end
+can_end_only t rs = takes_only t 0 rs
 
-from-only : (t : Table) (st : List ℕ) → OnlyFrom6To10 (recoversFrom t st)
-unfolding recoversFrom
-from-only t [] = tt
-from-only t (s ∷ st) = or-only (canPlan t 1 (s ∷ st)) (recoversFrom t st) (plan-only t 1 (s ∷ st)) (from-only t st)
+from_only : (t : Table) (st : List ℕ) → OnlyFrom6To10 (recovers_from t st)
+unfolding recovers_from
+from_only t [] = tt
+from_only t (s ∷ st) = or_only (can_plan t 1 (s ∷ st)) (recovers_from t st) (plan_only t 1 (s ∷ st)) (from_only t st)
 
-some-only : (t : Table) (rs : List Reading) → OnlyFrom6To10 (someRecovers t rs)
-unfolding someRecovers
-some-only t [] = tt
-some-only t (r ∷ rs) = or-only (recoversFrom t (states r.stack)) (someRecovers t rs) (from-only t (states r.stack)) (some-only t rs)
+some_only : (t : Table) (rs : List Reading) → OnlyFrom6To10 (some_recovers t rs)
+unfolding some_recovers
+some_only t [] = tt
+some_only t (r ∷ rs) = or_only (recovers_from t (states r.stack)) (some_recovers t rs) (from_only t (states r.stack)) (some_only t rs)
 
-pub canRecover-only : (t : Table) (rs : List Reading) → OnlyFrom6To10 (canRecover t rs)
-unfolding canRecover
-canRecover-only t rs = at t.recovers
+pub can_recover_only : (t : Table) (rs : List Reading) → OnlyFrom6To10 (can_recover t rs)
+unfolding can_recover
+can_recover_only t rs = at t.recovers
   where
-    at : (b : Bool) → OnlyFrom6To10 (if b then someRecovers t rs else No)
-    at true = some-only t rs
+    at : (b : Bool) → OnlyFrom6To10 (if b then some_recovers t rs else No)
+    at true = some_only t rs
     at false = tt

@@ -7,17 +7,17 @@ use native.Mathlib.Omega.{arith}
 use Rattle.meaning.specs.Basics.{isNil, AllOf}
 
 module _ {A B : Type 0} (f : A → B) where
-  pub map-append : (l m : List A) → map f (l ++ m) ≡ map f l ++ map f m
-  map-append [] m = refl
-  map-append (a ∷ l) m = ap {B = List B} (λ k. f a ∷ k) (map-append l m)
+  pub map_append : (l m : List A) → map f (l ++ m) ≡ map f l ++ map f m
+  map_append [] m = refl
+  map_append (a ∷ l) m = ap {B = List B} (λ k. f a ∷ k) (map_append l m)
 
-  pub map-reverse : (l acc : List A) → map f (reverse_aux l acc) ≡ reverse_aux (map f l) (map f acc)
-  map-reverse [] acc = refl
-  map-reverse (a ∷ l) acc = map-reverse l (a ∷ acc)
+  pub map_reverse : (l acc : List A) → map f (reverse_aux l acc) ≡ reverse_aux (map f l) (map f acc)
+  map_reverse [] acc = refl
+  map_reverse (a ∷ l) acc = map_reverse l (a ∷ acc)
 
-  pub nil-map : (l : List A) → isNil (map f l) ≡ isNil l
-  nil-map [] = refl
-  nil-map (a ∷ l) = refl
+  pub nil_map : (l : List A) → isNil (map f l) ≡ isNil l
+  nil_map [] = refl
+  nil_map (a ∷ l) = refl
 
   pub length-map : (l : List A) → length (map f l) ≡ length l
   length-map [] = refl
@@ -32,6 +32,6 @@ module _ {A : Type 0} (P : A → Type 0) where
   all_append [] m h g = g
   all_append (a ∷ l) m h g = (h.0, all_append l m h.1 g)
 
-  pub all-reverse : (l acc : List A) → AllOf P l → AllOf P acc → AllOf P (reverse_aux l acc)
-  all-reverse [] acc h g = g
-  all-reverse (a ∷ l) acc h g = all-reverse l (a ∷ acc) h.1 (h.0, g)
+  pub all_reverse : (l acc : List A) → AllOf P l → AllOf P acc → AllOf P (reverse_aux l acc)
+  all_reverse [] acc h g = g
+  all_reverse (a ∷ l) acc h g = all_reverse l (a ∷ acc) h.1 (h.0, g)

@@ -57,10 +57,10 @@ flat f [] = []
 flat f (a ∷ more) = f a ++ flat f more
 
 -- what there is of f's values, one after the other
-abbrev pub consMaybe : {A : Type 0} → Maybe A → List A → List A
-consMaybe nothing more = more
-consMaybe (just a) more = a ∷ more
+abbrev pub cons_maybe : {A : Type 0} → Maybe A → List A → List A
+cons_maybe nothing more = more
+cons_maybe (just a) more = a ∷ more
 
 abbrev pub each : {A B : Type 0} → (A → Maybe B) → List A → List B
 each f [] = []
-each f (a ∷ more) = consMaybe (f a) (each f more)
+each f (a ∷ more) = cons_maybe (f a) (each f more)

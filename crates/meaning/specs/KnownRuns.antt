@@ -2,9 +2,9 @@
 use Rattle.std.specs.Prelude.{ℕ, ◌+◌, true, List, [], ◌∷◌, map, reverse}
 use Rattle.meaning.specs.Basics.{Maybe, nothing, just}
 use Rattle.meaning.specs.Readings.{Reading, seen}
-use Rattle.meaning.specs.TableFile.{stateNo}
-use Rattle.meaning.specs.Bounds.{maxBirths}
-use Rattle.meaning.specs.Calls.{State, StartCall, startCall, FeedCall, feedCall}
+use Rattle.meaning.specs.TableFile.{state_no}
+use Rattle.meaning.specs.Bounds.{max_births}
+use Rattle.meaning.specs.Calls.{State, StartCall, start_call, FeedCall, feed_call}
 use Rattle.meaning.specs.KnownTables.{t1, t2, t4}
 use Rattle.meaning.specs.declared.Entry.{Entry as SeenEntry}
 use Rattle.meaning.specs.declared.Term.{Term}
@@ -27,30 +27,30 @@ pub record Run : Type 0 where
   pub terms : List Term
   pub leaves : Outcome
 
-abbrev pub seenReading : Reading → SeenReading
-seenReading r = record { mark = r.mark; entries = reverse (map seen r.stack) }
+abbrev pub seen_reading : Reading → SeenReading
+seen_reading r = record { mark = r.mark; entries = reverse (map seen r.stack) }
 
-abbrev pub seenState : State → Maybe (List SeenReading)
-seenState nothing = nothing
-seenState (just rs) = just (map seenReading rs)
+abbrev pub seen_state : State → Maybe (List SeenReading)
+seen_state nothing = nothing
+seen_state (just rs) = just (map seen_reading rs)
 
 abbrev pub started : StartCall → Outcome
-started c = record { says = record { answer = c.answer; errors = 0; walked = 0 }; readings = seenState c.state; errors = [] }
+started c = record { says = record { answer = c.answer; errors = 0; walked = 0 }; readings = seen_state c.state; errors = [] }
 
 abbrev pub fed : FeedCall → Outcome
-fed c = record { says = c.says; readings = seenState c.state; errors = c.errors }
+fed c = record { says = c.says; readings = seen_state c.state; errors = c.errors }
 
 -- the terms one after the other; the start entry has the identity 0, and every feed gets as many of its own as it may need
-unfoldable pub feedAll : (table : List ℕ) → State → List Term → (next : ℕ) → Outcome → Outcome
-feedAll table state [] next last = last
-feedAll table state (x ∷ more) next last =
-    let c = feedCall true table state x [] next in
-    feedAll table c.state more (next + maxBirths) (fed c)
+unfoldable pub feed_all : (table : List ℕ) → State → List Term → (next : ℕ) → Outcome → Outcome
+feed_all table state [] next last = last
+feed_all table state (x ∷ more) next last =
+    let c = feed_call true table state x [] next in
+    feed_all table c.state more (next + max_births) (fed c)
 
 unfoldable pub outcome : Run → Outcome
 outcome r =
-    let c = startCall true r.table nothing 0 in
-    feedAll r.table c.state r.terms 1 (started c)
+    let c = start_call true r.table nothing 0 in
+    feed_all r.table c.state r.terms 1 (started c)
 
 -- How they are written down.
 
@@ -58,13 +58,13 @@ abbrev term : (class value start end : ℕ) → Term
 term c v a b = record { class = c; value = v; start = a; end = b }
 
 abbrev entry : (state value start end : ℕ) → SeenEntry
-entry s v a b = record { state = stateNo s; value = v; start = a; end = b }
+entry s v a b = record { state = state_no s; value = v; start = a; end = b }
 
 abbrev reading : ℕ → List SeenEntry → SeenReading
 reading m es = record { mark = m; entries = es }
 
 abbrev error : (rule state mark : ℕ) → ErrorRecord
-error k s m = record { rule = k; state = stateNo s; mark = m }
+error k s m = record { rule = k; state = state_no s; mark = m }
 
 abbrev says : (answer errors walked : ℕ) → FeedNumbers
 says a e w = record { answer = a; errors = e; walked = w }
@@ -113,5 +113,5 @@ p9 = run t2 (term 4 0 1 2 ∷ []) (says 0 0 0) (reading 0 (one ∷ entry 8 0 0 0
 abbrev pub p10 : Run
 p10 = run t4 (term 3 9 0 1 ∷ []) (says 0 1 2) (reading 0 (one ∷ entry 2 9 0 1 ∷ []) ∷ []) (error 5 1 0 ∷ [])
 
-unfoldable pub knownRuns : List Run
-knownRuns = p1 ∷ p2 ∷ p3 ∷ p4 ∷ p5 ∷ p6 ∷ p7 ∷ p8 ∷ p9 ∷ p10 ∷ []
+unfoldable pub known_runs : List Run
+known_runs = p1 ∷ p2 ∷ p3 ∷ p4 ∷ p5 ∷ p6 ∷ p7 ∷ p8 ∷ p9 ∷ p10 ∷ []

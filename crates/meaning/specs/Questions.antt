@@ -1,23 +1,23 @@
 -- The three questions: takes this class? can end? can recover? They change nothing.
 use Rattle.std.specs.Prelude.{ℕ, List, [], ◌∷◌}
 use Rattle.meaning.specs.Basics.{if◌then◌else◌}
-use Rattle.meaning.specs.TableFile.{Table, endClass, errorClass}
+use Rattle.meaning.specs.TableFile.{Table, end_class, error_class}
 use Rattle.meaning.specs.Readings.{Reading, states}
 use Rattle.meaning.specs.Walk.{Walked, refused, walked, plan, ends}
 use Rattle.meaning.specs.declared.QuestionAnswer.{QuestionAnswer}
 use Rattle.meaning.specs.declared.QuestionAnswer.TheVariants.{Yes, No, Refused}
 
 -- Questions know no 11. A walk of 1,024 reductions reaches 1,025 states, so it never needs more room than this (proofs/Questions).
-abbrev pub enoughRoom : ℕ
-enoughRoom = 1025
+abbrev pub enough_room : ℕ
+enough_room = 1025
 
 -- A stack's whole walk is planned, so a refusal behind the first chain wins over its yes.
 abbrev pub planned : Walked → QuestionAnswer
 planned (refused k) = Refused k
 planned (walked tree n c) = if ends tree then Yes else No
 
-unfoldable pub canPlan : Table → (class : ℕ) → List ℕ → QuestionAnswer
-canPlan t class st = planned (plan t enoughRoom class st 0)
+unfoldable pub can_plan : Table → (class : ℕ) → List ℕ → QuestionAnswer
+can_plan t class st = planned (plan t enough_room class st 0)
 
 -- The first yes or the first refusal decides.
 abbrev pub or_else : QuestionAnswer → QuestionAnswer → QuestionAnswer
@@ -28,20 +28,20 @@ or_else (Refused k) q = Refused k
 -- Readings first to last.
 unfoldable pub takes : Table → (class : ℕ) → List Reading → QuestionAnswer
 takes t class [] = No
-takes t class (r ∷ rs) = or_else (canPlan t class (states r.stack)) (takes t class rs)
+takes t class (r ∷ rs) = or_else (can_plan t class (states r.stack)) (takes t class rs)
 
-unfoldable pub canEnd : Table → List Reading → QuestionAnswer
-canEnd t rs = takes t endClass rs
+unfoldable pub can_end : Table → List Reading → QuestionAnswer
+can_end t rs = takes t end_class rs
 
 -- Recovery asked for walks every stack down to height 1, shared or not.
-unfoldable pub recoversFrom : Table → List ℕ → QuestionAnswer
-recoversFrom t [] = No
-recoversFrom t (s ∷ st) = or_else (canPlan t errorClass (s ∷ st)) (recoversFrom t st)
+unfoldable pub recovers_from : Table → List ℕ → QuestionAnswer
+recovers_from t [] = No
+recovers_from t (s ∷ st) = or_else (can_plan t error_class (s ∷ st)) (recovers_from t st)
 
-unfoldable pub someRecovers : Table → List Reading → QuestionAnswer
-someRecovers t [] = No
-someRecovers t (r ∷ rs) = or_else (recoversFrom t (states r.stack)) (someRecovers t rs)
+unfoldable pub some_recovers : Table → List Reading → QuestionAnswer
+some_recovers t [] = No
+some_recovers t (r ∷ rs) = or_else (recovers_from t (states r.stack)) (some_recovers t rs)
 
 -- No if the error class is unused.
-unfoldable pub canRecover : Table → List Reading → QuestionAnswer
-canRecover t rs = if t.recovers then someRecovers t rs else No
+unfoldable pub can_recover : Table → List Reading → QuestionAnswer
+can_recover t rs = if t.recovers then some_recovers t rs else No

@@ -1,10 +1,10 @@
 -- The walk: one planning, which is the whole walk of one stack at one class, with its limits and refusals.
 use Rattle.std.specs.Prelude.{ℕ, zero, suc, ◌+◌, Bool, List, [], ◌∷◌, leb, ltb, eqb, length, get_or, drop}
 use Rattle.meaning.specs.Basics.{if◌then◌else◌, both, either, Maybe, nothing, just}
-use Rattle.meaning.specs.Limits.{maxHeight, maxChain, maxWalked}
-use Rattle.meaning.specs.TableFile.{Table, ActionRecord, gotoOf, ruleOf}
+use Rattle.meaning.specs.Limits.{max_height, max_chain, max_walked}
+use Rattle.meaning.specs.TableFile.{Table, ActionRecord, goto_of, rule_of}
 use Rattle.meaning.specs.TableRight.{shifts}
-use Rattle.meaning.specs.Chains.{recordAt}
+use Rattle.meaning.specs.Chains.{record_at}
 use Rattle.meaning.specs.declared.Rule.{Rule}
 use Rattle.meaning.specs.declared.Refusal.{Refusal}
 use Rattle.meaning.specs.declared.Refusal.TheVariants.{ReachesStart, NoGoto, TooHigh, ChainTooLong, WalkTooLong, TooManyReadings}
@@ -24,55 +24,55 @@ and_then (refused k) f = refused k
 and_then (walked w n c) f = f w n c
 
 -- whether there is room for one more chain after c chains
-abbrev pub hasRoom : (room c : ℕ) → Bool
-hasRoom room c = ltb c room
+abbrev pub has_room : (room c : ℕ) → Bool
+has_room room c = ltb c room
 
 -- The shift ends a chain. If there is no room for one more chain, that is 11.
-unfoldable pub endChain : (room : ℕ) → Maybe ℕ → (n c : ℕ) → Walked
-endChain room nothing n c = walked (shift nothing) n c
-endChain room (just to) n c = if hasRoom room c then walked (shift (just to)) n (c + 1) else refused TooManyReadings
+unfoldable pub end_chain : (room : ℕ) → Maybe ℕ → (n c : ℕ) → Walked
+end_chain room nothing n c = walked (shift nothing) n c
+end_chain room (just to) n c = if has_room room c then walked (shift (just to)) n (c + 1) else refused TooManyReadings
 
 -- no goto is 7
-abbrev pub orNoGoto : Maybe ℕ → (ℕ → Walked) → Walked
-orNoGoto nothing f = refused NoGoto
-orNoGoto (just to) f = f to
+abbrev pub or_no_goto : Maybe ℕ → (ℕ → Walked) → Walked
+or_no_goto nothing f = refused NoGoto
+or_no_goto (just to) f = f to
 
 -- whether a planning may walk no more after n reductions
-abbrev pub walkFull : (n : ℕ) → Bool
-walkFull n = leb maxWalked n
+abbrev pub walk_full : (n : ℕ) → Bool
+walk_full n = leb max_walked n
 
 -- One reduction, the (n + 1)th of this planning, with `left` steps left in its chain. The tests stand in their order; `go` goes on from the goto and what is left of the stack.
 unfoldable pub reduction : Table → Rule → List ℕ → (left n : ℕ) → (go : ℕ → List ℕ → Walked) → Walked
 reduction t q st left n go =
-    if walkFull n then refused WalkTooLong
+    if walk_full n then refused WalkTooLong
     else if eqb left 0 then refused ChainTooLong
     else if leb (length st) q.len then refused ReachesStart
-    else orNoGoto (gotoOf t (get_or (drop q.len st) 0 0) q.left) (λ to.
-    if ltb maxHeight (length (drop q.len st) + 1) then refused TooHigh else go to (drop q.len st))
+    else or_no_goto (goto_of t (get_or (drop q.len st) 0 0) q.left) (λ to.
+    if ltb max_height (length (drop q.len st) + 1) then refused TooHigh else go to (drop q.len st))
 
 -- The rule list of a state, then its shift. Each rule gives one reduction; `deeper` walks the state that it leads to.
-unfoldable pub walkRules : Table → (room left : ℕ) → (deeper : List ℕ → ℕ → ℕ → Walked) → Maybe ℕ → List ℕ → List ℕ → (n c : ℕ) → Walked
-walkRules t room left deeper sh st [] n c = endChain room sh n c
-walkRules t room left deeper sh st (k ∷ ks) n c =
-    reduction t (ruleOf t k) st left n λ to rest.
+unfoldable pub walk_rules : Table → (room left : ℕ) → (deeper : List ℕ → ℕ → ℕ → Walked) → Maybe ℕ → List ℕ → List ℕ → (n c : ℕ) → Walked
+walk_rules t room left deeper sh st [] n c = end_chain room sh n c
+walk_rules t room left deeper sh st (k ∷ ks) n c =
+    reduction t (rule_of t k) st left n λ to rest.
     and_then (deeper (to ∷ rest) (n + 1) c) λ below n' c'.
-    and_then (walkRules t room left deeper sh st ks n' c') λ beside n'' c''.
+    and_then (walk_rules t room left deeper sh st ks n' c') λ beside n'' c''.
     walked (reduce k to below beside) n'' c''
 
 -- On reaching a state with a shift, before its rules, height plus 1 above 64 is 8.
-unfoldable pub walkState : Table → (room left : ℕ) → (deeper : List ℕ → ℕ → ℕ → Walked) → ActionRecord → List ℕ → (n c : ℕ) → Walked
-walkState t room left deeper a st n c =
-    if both (shifts a.shift) (ltb maxHeight (length st + 1)) then refused TooHigh
-    else walkRules t room left deeper a.shift st a.rules n c
+unfoldable pub walk_state : Table → (room left : ℕ) → (deeper : List ℕ → ℕ → ℕ → Walked) → ActionRecord → List ℕ → (n c : ℕ) → Walked
+walk_state t room left deeper a st n c =
+    if both (shifts a.shift) (ltb max_height (length st + 1)) then refused TooHigh
+    else walk_rules t room left deeper a.shift st a.rules n c
 
 -- The walk with `left` steps left in the chain, after n reductions and c chains.
-unfoldable pub walkFrom : (left : ℕ) → Table → (room class : ℕ) → List ℕ → (n c : ℕ) → Walked
-walkFrom zero t room class st n c = walkState t room 0 (λ st' n' c'. refused ChainTooLong) (recordAt t class st) st n c
-walkFrom (suc left) t room class st n c = walkState t room (suc left) (λ st' n' c'. walkFrom left t room class st' n' c') (recordAt t class st) st n c
+unfoldable pub walk_from : (left : ℕ) → Table → (room class : ℕ) → List ℕ → (n c : ℕ) → Walked
+walk_from zero t room class st n c = walk_state t room 0 (λ st' n' c'. refused ChainTooLong) (record_at t class st) st n c
+walk_from (suc left) t room class st n c = walk_state t room (suc left) (λ st' n' c'. walk_from left t room class st' n' c') (record_at t class st) st n c
 
 -- One planning of a stack of states at a class, after c chains, with room for so many in all.
 unfoldable pub plan : Table → (room class : ℕ) → List ℕ → (c : ℕ) → Walked
-plan t room class st c = walkFrom maxChain t room class st 0 c
+plan t room class st c = walk_from max_chain t room class st 0 c
 
 -- A reading is planned if a chain ends.
 unfoldable pub ends : Walk → Bool

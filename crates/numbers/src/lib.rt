@@ -1,7 +1,7 @@
 // Numbers of two and four bytes, high byte first, read and written in lent bytes; and clearing lent bytes.
 ghost use Rattle.std.specs.Prelude.{◌≡◌, ◌+◌, ◌<◌, ◌≤◌, length};
-ghost use Rattle.meaning.specs.Bytes.{u16At, u32_at};
-ghost use Rattle.numbers.specs.Writing.{putU16, putU32};
+ghost use Rattle.meaning.specs.Bytes.{u16_at, u32_at};
+ghost use Rattle.numbers.specs.Writing.{put_u16, put_u32};
 ghost use Rattle.numbers.specs.Zeros.{zeros};
 
 // A byte as a wider number, with its bound.
@@ -14,7 +14,7 @@ fn wide(x: u8) -> u16
 // The two bytes at i.
 pub fn get16(bytes: &[u8], i: usize) -> u16
     requires { i + 2 ≤ length bytes.now }
-    ensures { result ≡ u16At bytes.now i }
+    ensures { result ≡ u16_at bytes.now i }
 {
     wide(bytes[i]) * 256 + wide(bytes[i + 1])
 }
@@ -30,7 +30,7 @@ pub fn get32(bytes: &[u8], i: usize) -> u32
 // Writes the two bytes at i, and no other.
 pub fn put16(bytes: &mut [u8], i: usize, v: u16)
     requires { i + 2 ≤ length bytes.old }
-    ensures { bytes.new ≡ putU16 bytes.old i v }
+    ensures { bytes.new ≡ put_u16 bytes.old i v }
 {
     bytes[i] = (v / 256) as u8;
     bytes[i + 1] = (v % 256) as u8;
@@ -39,7 +39,7 @@ pub fn put16(bytes: &mut [u8], i: usize, v: u16)
 // Writes the four bytes at i, and no other.
 pub fn put32(bytes: &mut [u8], i: usize, v: u32)
     requires { i + 4 ≤ length bytes.old }
-    ensures { bytes.new ≡ putU32 bytes.old i v }
+    ensures { bytes.new ≡ put_u32 bytes.old i v }
 {
     put16(&mut *bytes, i, (v / 65536) as u16);
     put16(&mut *bytes, i + 2, (v % 65536) as u16);

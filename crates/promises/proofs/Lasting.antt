@@ -10,7 +10,7 @@ use Rattle.meaning.specs.Answers.{number, startNumber, feedNumbers, questionNumb
 use Rattle.meaning.specs.Basics.{nothing, just}
 use Rattle.meaning.specs.Calls.{State, StartCall, FeedCall}
 use Rattle.meaning.specs.Feeding.{feed}
-use Rattle.meaning.specs.Readings.{startReading}
+use Rattle.meaning.specs.Readings.{start_reading}
 use Rattle.meaning.specs.TableFile.{table_of}
 use Rattle.meaning.specs.declared.Entry.{Entry as SeenEntry}
 use Rattle.meaning.specs.declared.ErrorRecord.{ErrorRecord}
@@ -21,95 +21,95 @@ use Rattle.meaning.specs.declared.StackAnswer.{StackAnswer}
 use Rattle.meaning.specs.declared.StackNumbers.{StackNumbers}
 use Rattle.meaning.specs.declared.StartAnswer.{StartAnswer}
 use Rattle.meaning.specs.declared.Term.{Term}
-use Rattle.meaning.proofs.Settled.{number-range}
-use Rattle.state.specs.Readings.{usedOf}
-use Rattle.promises.specs.Buffers.{lengthsRight, feedLengths, listsRight, stateFor}
-use Rattle.promises.specs.Calls.{StartPromise, QuestionPromise, StackPromise, SameState, feedOn, FeedPromise}
+use Rattle.meaning.proofs.Settled.{number_range}
+use Rattle.state.specs.Readings.{used_of}
+use Rattle.promises.specs.Buffers.{lengths_right, feed_lengths, lists_right, state_for}
+use Rattle.promises.specs.Calls.{StartPromise, QuestionPromise, StackPromise, SameState, feed_on, FeedPromise}
 use Rattle.promises.specs.Claims.{Fits, PassedCheck, NeverWrongState}
-use Rattle.promises.proofs.Asking.{Asked, takes-asked, canEnd-asked, canRecover-asked, stack-tells}
-use Rattle.promises.proofs.Buffers.{found-holds, fits-some, some_fits}
-use Rattle.promises.proofs.Checks.{no-nothing, StartStopped, StartWent, start-case, Tells, FeedStopped, FeedWent, feed-case, feed-tells}
+use Rattle.promises.proofs.Asking.{Asked, takes_asked, can_end_asked, can_recover_asked, stack_tells}
+use Rattle.promises.proofs.Buffers.{found_holds, fits_some, some_fits}
+use Rattle.promises.proofs.Checks.{no_nothing, StartStopped, StartWent, start_case, Tells, FeedStopped, FeedWent, feed_case, feed_tells}
 
 -- Start.
-start-leaves : (table state work : List ℕ) (r : StartAnswer) (state' work' : List ℕ) → StartPromise table state work r state' work' → startNumber r ≡ 0 → Fits table state'
-start-leaves table state work r state' work' a z = at (start-case b table (stateFor table state) 0)
+start_leaves : (table state work : List ℕ) (r : StartAnswer) (state' work' : List ℕ) → StartPromise table state work r state' work' → startNumber r ≡ 0 → Fits table state'
+start_leaves table state work r state' work' a z = at (start_case b table (state_for table state) 0)
   where
     b : Bool
-    b = lengthsRight state work
+    b = lengths_right state work
 
-    at : StartStopped b table (stateFor table state) 0 ⊎ StartWent b table (stateFor table state) 0 → Fits table state'
+    at : StartStopped b table (state_for table state) 0 ⊎ StartWent b table (state_for table state) 0 → Fits table state'
     at (inl s) =
         let e : startNumber r ≡ number s.by = a.leaves.answers ∙ ap (λ (c : StartCall). c.answer) s.is in
-        let l = (number-range s.by).0 in
+        let l = (number_range s.by).0 in
         absurd (omega arith)
-    at (inr w) = (found-holds table state' (startReading (table_of table) 0 ∷ []) (a.leaves.readings ∙ ap (λ (c : StartCall). c.state) w.is)).fits
+    at (inr w) = (found_holds table state' (start_reading (table_of table) 0 ∷ []) (a.leaves.readings ∙ ap (λ (c : StartCall). c.state) w.is)).fits
 
 -- Feed: what it leaves is found, if what it began with was.
 same_some : (s s' : State) → SameState s s' → (s ≡ nothing → ⊥) → s' ≡ nothing → ⊥
 same_some nothing nothing h f e = f refl
 same_some nothing (just rs) h f e = h
 same_some (just rs) nothing h f e = h
-same_some (just rs) (just rs') h f e = no-nothing rs' e
+same_some (just rs) (just rs') h f e = no_nothing rs' e
 
 module _ (table state work : List ℕ) (x : Term) (errors : List ErrorRecord) (r : FeedAnswer) (state' work' : List ℕ) (errors' : List ErrorRecord)
     (a : FeedPromise table state work x errors r state' work' errors') where
   abbrev right : Bool
-  right = feedLengths state work (length errors)
+  right = feed_lengths state work (length errors)
 
-  told : Tells right (stateFor table state) (feedNumbers r).answer
+  told : Tells right (state_for table state) (feedNumbers r).answer
   told =
-      subst (λ (m : FeedNumbers). Tells right (stateFor table state) m.answer) (sym a.leaves.answers) (feed-tells right table (stateFor table state) x errors (usedOf state))
+      subst (λ (m : FeedNumbers). Tells right (state_for table state) m.answer) (sym a.leaves.answers) (feed_tells right table (state_for table state) x errors (used_of state))
 
-  kept : (stateFor table state ≡ nothing → ⊥) → Fits table state'
-  kept h = some_fits table state' (same_some (feedOn table state work x errors).state (stateFor table state') a.leaves.readings (at (feed-case right table (stateFor table state) x errors (usedOf state))))
+  kept : (state_for table state ≡ nothing → ⊥) → Fits table state'
+  kept h = some_fits table state' (same_some (feed_on table state work x errors).state (state_for table state') a.leaves.readings (at (feed_case right table (state_for table state) x errors (used_of state))))
     where
-      at : FeedStopped right table (stateFor table state) x errors (usedOf state) ⊎ FeedWent right table (stateFor table state) x errors (usedOf state) → (feedOn table state work x errors).state ≡ nothing → ⊥
+      at : FeedStopped right table (state_for table state) x errors (used_of state) ⊎ FeedWent right table (state_for table state) x errors (used_of state) → (feed_on table state work x errors).state ≡ nothing → ⊥
       at (inl s) e = h (sym (ap (λ (c : FeedCall). c.state) s.is) ∙ e)
-      at (inr w) e = no-nothing (feed (table_of table) x w.found (usedOf state)).readings (sym (ap (λ (c : FeedCall). c.state) w.is) ∙ e)
+      at (inr w) e = no_nothing (feed (table_of table) x w.found (used_of state)).readings (sym (ap (λ (c : FeedCall). c.state) w.is) ∙ e)
 
-  feed-leaves : PassedCheck (feedNumbers r).answer → Fits table state'
-  feed-leaves p = kept (told.passed p)
+  feed_leaves : PassedCheck (feedNumbers r).answer → Fits table state'
+  feed_leaves p = kept (told.passed p)
 
-  feed-takes : Fits table state → ((feedNumbers r).answer ≡ 3 → ⊥) × Fits table state'
-  feed-takes f = (told.right-state (fits-some table state f), kept (fits-some table state f))
+  feed_takes : Fits table state → ((feedNumbers r).answer ≡ 3 → ⊥) × Fits table state'
+  feed_takes f = (told.right_state (fits_some table state f), kept (fits_some table state f))
 
 -- The questions.
-module _ (call : Bool → QuestionAnswer) (table state work : List ℕ) (r : QuestionAnswer) (work' : List ℕ) (h : (b : Bool) → Asked b (stateFor table state) (questionNumbers (call b)).answer)
+module _ (call : Bool → QuestionAnswer) (table state work : List ℕ) (r : QuestionAnswer) (work' : List ℕ) (h : (b : Bool) → Asked b (state_for table state) (questionNumbers (call b)).answer)
     (a : QuestionPromise call state work r work') where
-  asked-told : Tells (lengthsRight state work) (stateFor table state) (questionNumbers r).answer
-  asked-told = subst (λ (q : QuestionAnswer). Tells (lengthsRight state work) (stateFor table state) (questionNumbers q).answer) (sym a.answers) (h (lengthsRight state work)).tells-of
+  asked_told : Tells (lengths_right state work) (state_for table state) (questionNumbers r).answer
+  asked_told = subst (λ (q : QuestionAnswer). Tells (lengths_right state work) (state_for table state) (questionNumbers q).answer) (sym a.answers) (h (lengths_right state work)).tells_of
 
-  asked-leaves : PassedCheck (questionNumbers r).answer → Fits table state
-  asked-leaves p = some_fits table state (asked-told.passed p)
+  asked_leaves : PassedCheck (questionNumbers r).answer → Fits table state
+  asked_leaves p = some_fits table state (asked_told.passed p)
 
-  asked-takes : Fits table state → (questionNumbers r).answer ≡ 3 → ⊥
-  asked-takes f = asked-told.right-state (fits-some table state f)
+  asked_takes : Fits table state → (questionNumbers r).answer ≡ 3 → ⊥
+  asked_takes f = asked_told.right_state (fits_some table state f)
 
 -- Reading a stack out.
 module _ (table state : List ℕ) (i : ℕ) (entries : List SeenEntry) (r : StackAnswer) (entries' : List SeenEntry) (a : StackPromise table state i entries r entries') where
-  stack-told : Tells (listsRight state (length entries)) (stateFor table state) (stackNumbers r).answer
-  stack-told =
-      subst (λ (m : StackNumbers). Tells (listsRight state (length entries)) (stateFor table state) m.answer) (sym a.answers)
-      (stack-tells (listsRight state (length entries)) table (stateFor table state) i entries)
+  stack_told : Tells (lists_right state (length entries)) (state_for table state) (stackNumbers r).answer
+  stack_told =
+      subst (λ (m : StackNumbers). Tells (lists_right state (length entries)) (state_for table state) m.answer) (sym a.answers)
+      (stack_tells (lists_right state (length entries)) table (state_for table state) i entries)
 
-  stack-leaves : PassedCheck (stackNumbers r).answer → Fits table state
-  stack-leaves p = some_fits table state (stack-told.passed p)
+  stack_leaves : PassedCheck (stackNumbers r).answer → Fits table state
+  stack_leaves p = some_fits table state (stack_told.passed p)
 
-  stack-takes : Fits table state → (stackNumbers r).answer ≡ 3 → ⊥
-  stack-takes f = stack-told.right-state (fits-some table state f)
+  stack_takes : Fits table state → (stackNumbers r).answer ≡ 3 → ⊥
+  stack_takes f = stack_told.right_state (fits_some table state f)
 
-pub never-wrong-state : NeverWrongState
-never-wrong-state =
+pub never_wrong_state : NeverWrongState
+never_wrong_state =
     record {
-      start-leaves = start-leaves;
-      feed-leaves = feed-leaves;
-      takes-leaves = λ table state work class r work' a. asked-leaves _ table state work r work' (λ b. takes-asked b table (stateFor table state) class) a;
-      canEnd-leaves = λ table state work r work' a. asked-leaves _ table state work r work' (λ b. canEnd-asked b table (stateFor table state)) a;
-      canRecover-leaves = λ table state work r work' a. asked-leaves _ table state work r work' (λ b. canRecover-asked b table (stateFor table state)) a;
-      stack-leaves = stack-leaves;
-      feed-takes = feed-takes;
-      takes-takes = λ table state work class r work' a. asked-takes _ table state work r work' (λ b. takes-asked b table (stateFor table state) class) a;
-      canEnd-takes = λ table state work r work' a. asked-takes _ table state work r work' (λ b. canEnd-asked b table (stateFor table state)) a;
-      canRecover-takes = λ table state work r work' a. asked-takes _ table state work r work' (λ b. canRecover-asked b table (stateFor table state)) a;
-      stack-takes = stack-takes;
+      start_leaves = start_leaves;
+      feed_leaves = feed_leaves;
+      takes_leaves = λ table state work class r work' a. asked_leaves _ table state work r work' (λ b. takes_asked b table (state_for table state) class) a;
+      can_end_leaves = λ table state work r work' a. asked_leaves _ table state work r work' (λ b. can_end_asked b table (state_for table state)) a;
+      can_recover_leaves = λ table state work r work' a. asked_leaves _ table state work r work' (λ b. can_recover_asked b table (state_for table state)) a;
+      stack_leaves = stack_leaves;
+      feed_takes = feed_takes;
+      takes_takes = λ table state work class r work' a. asked_takes _ table state work r work' (λ b. takes_asked b table (state_for table state) class) a;
+      can_end_takes = λ table state work r work' a. asked_takes _ table state work r work' (λ b. can_end_asked b table (state_for table state)) a;
+      can_recover_takes = λ table state work r work' a. asked_takes _ table state work r work' (λ b. can_recover_asked b table (state_for table state)) a;
+      stack_takes = stack_takes;
     }

@@ -12,13 +12,13 @@ module _ (n m : ℕ) (f : ℕ → ℕ) (into : (c : ℕ) → c < suc n → f c <
   abbrev moved : Bool → ℕ → ℕ
   moved last c = (if last then f n else f c)
 
-  moved-into : (c : ℕ) → c < n → (last : Bool) → eqb (f c) m ≡ last → moved last c < m
-  moved-into c l true e =
+  moved_into : (c : ℕ) → c < n → (last : Bool) → eqb (f c) m ≡ last → moved last c < m
+  moved_into c l true e =
       let g = into n (omega arith) in
       let is = eqb-true (f c) m e in
       let other : f n ≡ m → ⊥ = λ q. (let z = apart c n (omega arith) (omega arith) (is ∙ sym q) in omega arith) in
       omega (arith, other)
-  moved-into c l false e =
+  moved_into c l false e =
       let g = into c (omega arith) in
       let other = eqb-false (f c) m e in
       omega (arith, other)
@@ -34,5 +34,5 @@ pigeonhole zero m f into apart = omega arith
 pigeonhole (suc n) zero f into apart = let z = into 0 (omega arith) in absurd (omega arith)
 pigeonhole (suc n) (suc m) f into apart =
     let g : ℕ → ℕ = λ c. moved n m f into apart (eqb (f c) m) c in
-    let h = pigeonhole n m g (λ c l. moved-into n m f into apart c l (eqb (f c) m) refl) (λ a b k l q. moved_apart n m f into apart a b k l (eqb (f a) m) (eqb (f b) m) refl refl q) in
+    let h = pigeonhole n m g (λ c l. moved_into n m f into apart c l (eqb (f c) m) refl) (λ a b k l q. moved_apart n m f into apart a b k l (eqb (f a) m) (eqb (f b) m) refl refl q) in
     omega arith

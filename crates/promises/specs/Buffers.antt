@@ -2,28 +2,28 @@
 use Rattle.std.specs.Prelude.{Bool, List, ℕ, eqb, length}
 use Rattle.meaning.specs.Basics.{if◌then◌else◌, both}
 use Rattle.meaning.specs.Calls.{State}
-use Rattle.meaning.specs.Limits.{maxHeight, maxErrors}
+use Rattle.meaning.specs.Limits.{max_height, max_errors}
 use Rattle.meaning.specs.TableFile.{table_of}
 use Rattle.numbers.specs.Zeros.{zeros}
 use Rattle.state.specs.Check.{state_of}
-use Rattle.state.specs.Layout.{stateLength, workLength}
+use Rattle.state.specs.Layout.{state_len, work_len}
 
 -- Check 1: state buffer and work area have their lengths,
-unfoldable pub lengthsRight : (state work : List ℕ) → Bool
-lengthsRight state work = both (eqb (length state) stateLength) (eqb (length work) workLength)
+unfoldable pub lengths_right : (state work : List ℕ) → Bool
+lengths_right state work = both (eqb (length state) state_len) (eqb (length work) work_len)
 
 -- of a feed also: the lent list has a place for each error record,
-unfoldable pub feedLengths : (state work : List ℕ) → (places : ℕ) → Bool
-feedLengths state work places = both (lengthsRight state work) (eqb places maxErrors)
+unfoldable pub feed_lengths : (state work : List ℕ) → (places : ℕ) → Bool
+feed_lengths state work places = both (lengths_right state work) (eqb places max_errors)
 
 -- of reading out, which has no work area: the lent list has a place for each height.
-unfoldable pub listsRight : (state : List ℕ) → (places : ℕ) → Bool
-listsRight state places = both (eqb (length state) stateLength) (eqb places maxHeight)
+unfoldable pub lists_right : (state : List ℕ) → (places : ℕ) → Bool
+lists_right state places = both (eqb (length state) state_len) (eqb places max_height)
 
 -- the state that bytes are, for a table's count of states
-abbrev pub stateFor : (table state : List ℕ) → State
-stateFor table state = state_of (table_of table).counts.states state
+abbrev pub state_for : (table state : List ℕ) → State
+state_for table state = state_of (table_of table).counts.states state
 
 -- The work area is all zero at every answer but 1, and untouched at 1.
-unfoldable pub workAfter : (lengths : Bool) → List ℕ → List ℕ
-workAfter lengths work = if lengths then zeros (length work) else work
+unfoldable pub work_after : (lengths : Bool) → List ℕ → List ℕ
+work_after lengths work = if lengths then zeros (length work) else work

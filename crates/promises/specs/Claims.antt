@@ -2,11 +2,11 @@
 use Rattle.std.specs.Prelude.{◌≡◌, Bool, true, false, List, map, ℕ, ◌≤◌, length, take, drop}
 use Rattle.meaning.specs.Answers.{done, startNumber, feedNumbers, questionNumbers, stackNumbers}
 use Rattle.meaning.specs.Basics.{nothing, just}
-use Rattle.meaning.specs.Bounds.{maxWalkedByFeed}
+use Rattle.meaning.specs.Bounds.{max_walked_by_feed}
 use Rattle.meaning.specs.Calls.{State}
 use Rattle.meaning.specs.Demand3.{Same, Alike, ByChains}
-use Rattle.meaning.specs.Feeding.{startsRecovery}
-use Rattle.meaning.specs.Limits.{maxErrors}
+use Rattle.meaning.specs.Feeding.{starts_recovery}
+use Rattle.meaning.specs.Limits.{max_errors}
 use Rattle.meaning.specs.Outcome.{Fed}
 use Rattle.meaning.specs.Readings.{plain}
 use Rattle.meaning.specs.TableFile.{table_of}
@@ -18,11 +18,11 @@ use Rattle.meaning.specs.declared.StackAnswer.{StackAnswer}
 use Rattle.meaning.specs.declared.StartAnswer.{StartAnswer}
 use Rattle.meaning.specs.declared.Term.{Term}
 use Rattle.numbers.specs.Zeros.{zeros}
-use Rattle.state.specs.Check.{validState}
-use Rattle.state.specs.Readings.{usedOf, readingsOf}
-use Rattle.promises.specs.Buffers.{stateFor}
+use Rattle.state.specs.Check.{valid_state}
+use Rattle.state.specs.Readings.{used_of, readings_of}
+use Rattle.promises.specs.Buffers.{state_for}
 use Rattle.promises.specs.Cells.{EqualButCells}
-use Rattle.promises.specs.Calls.{StartPromise, takesOn, canEndOn, canRecoverOn, QuestionPromise, StackPromise, SameState, FeedPromise}
+use Rattle.promises.specs.Calls.{StartPromise, takes_on, can_end_on, can_recover_on, QuestionPromise, StackPromise, SameState, FeedPromise}
 
 -- Answers 1 to 11.
 abbrev pub Refusing : ℕ → Type 0
@@ -31,15 +31,15 @@ Refusing n = (1 ≤ n) × (n ≤ 11)
 -- One outcome (proofs/Outcomes).
 
 -- The readings of a state in their order, without identities.
-abbrev pub plainState : State → State
-plainState nothing = nothing
-plainState (just rs) = just (map plain rs)
+abbrev pub plain_state : State → State
+plain_state nothing = nothing
+plain_state (just rs) = just (map plain rs)
 
 -- Two outcomes of one feed are equal but for which cell holds which entry, in nothing else; where the feed is refused, to the last byte.
 pub record SameOutcome (table : List ℕ) (r q : FeedAnswer) (state₁ state₂ work₁ work₂ : List ℕ) (errors₁ errors₂ : List ErrorRecord) : Type 0 where
   pub answer : r ≡ q
-  pub states : SameState (stateFor table state₁) (stateFor table state₂)
-  pub readings : plainState (stateFor table state₁) ≡ plainState (stateFor table state₂)
+  pub states : SameState (state_for table state₁) (state_for table state₂)
+  pub readings : plain_state (state_for table state₁) ≡ plain_state (state_for table state₂)
   pub refused : Refusing (feedNumbers r).answer → state₁ ≡ state₂
   pub taken : (Refusing (feedNumbers r).answer → ⊥) → EqualButCells state₁ state₂
   pub work : work₁ ≡ work₂
@@ -54,48 +54,48 @@ pub record WorkLeft (answer : ℕ) (work work' : List ℕ) : Type 0 where
 
 pub record StartKeeps (state work : List ℕ) (r : StartAnswer) (state' work' : List ℕ) : Type 0 where
   pub answer : startNumber r ≤ 2
-  pub state-kept : Refusing (startNumber r) → state' ≡ state
-  pub state-long : length state' ≡ length state
-  pub work-left : WorkLeft (startNumber r) work work'
+  pub state_kept : Refusing (startNumber r) → state' ≡ state
+  pub state_long : length state' ≡ length state
+  pub work_left : WorkLeft (startNumber r) work work'
 
 pub record FeedKeeps (state work : List ℕ) (errors : List ErrorRecord) (r : FeedAnswer) (state' work' : List ℕ) (errors' : List ErrorRecord) : Type 0 where
   pub answer : (feedNumbers r).answer ≤ 12
-  pub state-kept : Refusing (feedNumbers r).answer → state' ≡ state
-  pub state-long : length state' ≡ length state
-  pub errors-kept : Refusing (feedNumbers r).answer → errors' ≡ errors
-  pub errors-long : length errors' ≡ length errors
-  pub errors-past : drop (feedNumbers r).errors errors' ≡ drop (feedNumbers r).errors errors
-  pub errors-few : (feedNumbers r).errors ≤ maxErrors
-  pub walked-few : (feedNumbers r).walked ≤ maxWalkedByFeed
-  pub work-left : WorkLeft (feedNumbers r).answer work work'
+  pub state_kept : Refusing (feedNumbers r).answer → state' ≡ state
+  pub state_long : length state' ≡ length state
+  pub errors_kept : Refusing (feedNumbers r).answer → errors' ≡ errors
+  pub errors_long : length errors' ≡ length errors
+  pub errors_past : drop (feedNumbers r).errors errors' ≡ drop (feedNumbers r).errors errors
+  pub errors_few : (feedNumbers r).errors ≤ max_errors
+  pub walked_few : (feedNumbers r).walked ≤ max_walked_by_feed
+  pub work_left : WorkLeft (feedNumbers r).answer work work'
 
 -- A question that finds no reading left says no: 4 never comes, nor 11 or 12.
 pub record QuestionKeeps (work : List ℕ) (r : QuestionAnswer) (work' : List ℕ) : Type 0 where
   pub answer : (questionNumbers r).answer ≤ 10
-  pub answer-not-4 : (questionNumbers r).answer ≡ 4 → ⊥
-  pub work-left : WorkLeft (questionNumbers r).answer work work'
+  pub answer_not_4 : (questionNumbers r).answer ≡ 4 → ⊥
+  pub work_left : WorkLeft (questionNumbers r).answer work work'
 
 pub record StackKeeps (entries : List SeenEntry) (r : StackAnswer) (entries' : List SeenEntry) : Type 0 where
   pub answer : (stackNumbers r).answer ≤ 5
-  pub entries-kept : Refusing (stackNumbers r).answer → entries' ≡ entries
-  pub entries-long : length entries' ≡ length entries
-  pub entries-past : drop (stackNumbers r).height entries' ≡ drop (stackNumbers r).height entries
+  pub entries_kept : Refusing (stackNumbers r).answer → entries' ≡ entries
+  pub entries_long : length entries' ≡ length entries
+  pub entries_past : drop (stackNumbers r).height entries' ≡ drop (stackNumbers r).height entries
 
 -- Of all calls. Table, and for questions and reading out also the state, are lent to be read only: no promise has them afterwards.
 pub record Demand1 : Type 0 where
   pub start : (table state work : List ℕ) (r : StartAnswer) (state' work' : List ℕ) → StartPromise table state work r state' work' → StartKeeps state work r state' work'
   pub feed : (table state work : List ℕ) (x : Term) (errors : List ErrorRecord) (r : FeedAnswer) (state' work' : List ℕ) (errors' : List ErrorRecord) →
       FeedPromise table state work x errors r state' work' errors' → FeedKeeps state work errors r state' work' errors'
-  pub takes : (table state work : List ℕ) (class : ℕ) (r : QuestionAnswer) (work' : List ℕ) → QuestionPromise (takesOn table state class) state work r work' → QuestionKeeps work r work'
-  pub canEnd : (table state work : List ℕ) (r : QuestionAnswer) (work' : List ℕ) → QuestionPromise (canEndOn table state) state work r work' → QuestionKeeps work r work'
-  pub canRecover : (table state work : List ℕ) (r : QuestionAnswer) (work' : List ℕ) → QuestionPromise (canRecoverOn table state) state work r work' → QuestionKeeps work r work'
+  pub takes : (table state work : List ℕ) (class : ℕ) (r : QuestionAnswer) (work' : List ℕ) → QuestionPromise (takes_on table state class) state work r work' → QuestionKeeps work r work'
+  pub can_end : (table state work : List ℕ) (r : QuestionAnswer) (work' : List ℕ) → QuestionPromise (can_end_on table state) state work r work' → QuestionKeeps work r work'
+  pub can_recover : (table state work : List ℕ) (r : QuestionAnswer) (work' : List ℕ) → QuestionPromise (can_recover_on table state) state work r work' → QuestionKeeps work r work'
   pub stack : (table state : List ℕ) (i : ℕ) (entries : List SeenEntry) (r : StackAnswer) (entries' : List SeenEntry) → StackPromise table state i entries r entries' → StackKeeps entries r entries'
 
 -- Answer 3 (proofs/Lasting).
 
 -- A state buffer that keeps the layout's rules and names only states of this table.
 abbrev pub Fits : (table state : List ℕ) → Type 0
-Fits table state = validState (table_of table).counts.states state ≡ true
+Fits table state = valid_state (table_of table).counts.states state ≡ true
 
 -- A call that checks the state has passed check 3: it is answered by none of 1, 2 and 3.
 abbrev pub PassedCheck : ℕ → Type 0
@@ -104,43 +104,43 @@ PassedCheck n = (1 ≤ n) × (n ≤ 3) → ⊥
 -- A start answered 0 and every call that passed the check leave such a buffer, and no call answers 3 for one.
 -- The questions and reading out leave the state as it was: their promises have none afterwards.
 pub record NeverWrongState : Type 0 where
-  pub start-leaves : (table state work : List ℕ) (r : StartAnswer) (state' work' : List ℕ) → StartPromise table state work r state' work' → startNumber r ≡ done → Fits table state'
-  pub feed-leaves : (table state work : List ℕ) (x : Term) (errors : List ErrorRecord) (r : FeedAnswer) (state' work' : List ℕ) (errors' : List ErrorRecord) →
+  pub start_leaves : (table state work : List ℕ) (r : StartAnswer) (state' work' : List ℕ) → StartPromise table state work r state' work' → startNumber r ≡ done → Fits table state'
+  pub feed_leaves : (table state work : List ℕ) (x : Term) (errors : List ErrorRecord) (r : FeedAnswer) (state' work' : List ℕ) (errors' : List ErrorRecord) →
       FeedPromise table state work x errors r state' work' errors' → PassedCheck (feedNumbers r).answer → Fits table state'
-  pub takes-leaves : (table state work : List ℕ) (class : ℕ) (r : QuestionAnswer) (work' : List ℕ) →
-      QuestionPromise (takesOn table state class) state work r work' → PassedCheck (questionNumbers r).answer → Fits table state
-  pub canEnd-leaves : (table state work : List ℕ) (r : QuestionAnswer) (work' : List ℕ) →
-      QuestionPromise (canEndOn table state) state work r work' → PassedCheck (questionNumbers r).answer → Fits table state
-  pub canRecover-leaves : (table state work : List ℕ) (r : QuestionAnswer) (work' : List ℕ) →
-      QuestionPromise (canRecoverOn table state) state work r work' → PassedCheck (questionNumbers r).answer → Fits table state
-  pub stack-leaves : (table state : List ℕ) (i : ℕ) (entries : List SeenEntry) (r : StackAnswer) (entries' : List SeenEntry) →
+  pub takes_leaves : (table state work : List ℕ) (class : ℕ) (r : QuestionAnswer) (work' : List ℕ) →
+      QuestionPromise (takes_on table state class) state work r work' → PassedCheck (questionNumbers r).answer → Fits table state
+  pub can_end_leaves : (table state work : List ℕ) (r : QuestionAnswer) (work' : List ℕ) →
+      QuestionPromise (can_end_on table state) state work r work' → PassedCheck (questionNumbers r).answer → Fits table state
+  pub can_recover_leaves : (table state work : List ℕ) (r : QuestionAnswer) (work' : List ℕ) →
+      QuestionPromise (can_recover_on table state) state work r work' → PassedCheck (questionNumbers r).answer → Fits table state
+  pub stack_leaves : (table state : List ℕ) (i : ℕ) (entries : List SeenEntry) (r : StackAnswer) (entries' : List SeenEntry) →
       StackPromise table state i entries r entries' → PassedCheck (stackNumbers r).answer → Fits table state
-  pub feed-takes : (table state work : List ℕ) (x : Term) (errors : List ErrorRecord) (r : FeedAnswer) (state' work' : List ℕ) (errors' : List ErrorRecord) →
+  pub feed_takes : (table state work : List ℕ) (x : Term) (errors : List ErrorRecord) (r : FeedAnswer) (state' work' : List ℕ) (errors' : List ErrorRecord) →
       FeedPromise table state work x errors r state' work' errors' → Fits table state → ((feedNumbers r).answer ≡ 3 → ⊥) × Fits table state'
-  pub takes-takes : (table state work : List ℕ) (class : ℕ) (r : QuestionAnswer) (work' : List ℕ) →
-      QuestionPromise (takesOn table state class) state work r work' → Fits table state → (questionNumbers r).answer ≡ 3 → ⊥
-  pub canEnd-takes : (table state work : List ℕ) (r : QuestionAnswer) (work' : List ℕ) →
-      QuestionPromise (canEndOn table state) state work r work' → Fits table state → (questionNumbers r).answer ≡ 3 → ⊥
-  pub canRecover-takes : (table state work : List ℕ) (r : QuestionAnswer) (work' : List ℕ) →
-      QuestionPromise (canRecoverOn table state) state work r work' → Fits table state → (questionNumbers r).answer ≡ 3 → ⊥
-  pub stack-takes : (table state : List ℕ) (i : ℕ) (entries : List SeenEntry) (r : StackAnswer) (entries' : List SeenEntry) →
+  pub takes_takes : (table state work : List ℕ) (class : ℕ) (r : QuestionAnswer) (work' : List ℕ) →
+      QuestionPromise (takes_on table state class) state work r work' → Fits table state → (questionNumbers r).answer ≡ 3 → ⊥
+  pub can_end_takes : (table state work : List ℕ) (r : QuestionAnswer) (work' : List ℕ) →
+      QuestionPromise (can_end_on table state) state work r work' → Fits table state → (questionNumbers r).answer ≡ 3 → ⊥
+  pub can_recover_takes : (table state work : List ℕ) (r : QuestionAnswer) (work' : List ℕ) →
+      QuestionPromise (can_recover_on table state) state work r work' → Fits table state → (questionNumbers r).answer ≡ 3 → ⊥
+  pub stack_takes : (table state : List ℕ) (i : ℕ) (entries : List SeenEntry) (r : StackAnswer) (entries' : List SeenEntry) →
       StackPromise table state i entries r entries' → Fits table state → (stackNumbers r).answer ≡ 3 → ⊥
 
 -- The third demand (proofs/Demand3), in meaning's words.
 
 -- What a feed came to, read off its answer and the buffers that it left.
-abbrev pub fedBy : FeedAnswer → (state' : List ℕ) → (errors' : List ErrorRecord) → Fed
-fedBy r state' errors' =
+abbrev pub fed_by : FeedAnswer → (state' : List ℕ) → (errors' : List ErrorRecord) → Fed
+fed_by r state' errors' =
     record {
       answer = (feedNumbers r).answer;
-      readings = readingsOf state';
+      readings = readings_of state';
       errors = take (feedNumbers r).errors errors';
       walked = (feedNumbers r).walked;
-      next = usedOf state';
+      next = used_of state';
     }
 
 abbrev pub Recovers : (table state : List ℕ) → Term → Bool
-Recovers table state x = startsRecovery (table_of table) x (readingsOf state) (usedOf state)
+Recovers table state x = starts_recovery (table_of table) x (readings_of state) (used_of state)
 
 pub record Demand3 : Type 0 where
   -- The same readings in another order, one term: if the one feed is not refused and starts no recovery, and the other passes its checks, then the other is not refused and starts no recovery either,
@@ -148,10 +148,10 @@ pub record Demand3 : Type 0 where
   pub order : (table : List ℕ) (x : Term) (state work : List ℕ) (errors : List ErrorRecord) (r : FeedAnswer) (state' work' : List ℕ) (errors' : List ErrorRecord)
       (twin spare : List ℕ) (others : List ErrorRecord) (q : FeedAnswer) (twin' spare' : List ℕ) (others' : List ErrorRecord) →
       FeedPromise table state work x errors r state' work' errors' → FeedPromise table twin spare x others q twin' spare' others' →
-      Same (map plain (readingsOf state)) (map plain (readingsOf twin)) →
+      Same (map plain (readings_of state)) (map plain (readings_of twin)) →
       (Refusing (feedNumbers r).answer → ⊥) → Recovers table state x ≡ false → PassedCheck (feedNumbers q).answer →
-      (Recovers table twin x ≡ false) × Alike (fedBy r state' errors') (fedBy q twin' others')
+      (Recovers table twin x ≡ false) × Alike (fed_by r state' errors') (fed_by q twin' others')
   -- Answered 0 with no recovery: exactly one reading for each chain of reductions and a shift whose actions all succeed.
   pub chains : (table : List ℕ) (x : Term) (state work : List ℕ) (errors : List ErrorRecord) (r : FeedAnswer) (state' work' : List ℕ) (errors' : List ErrorRecord) →
       FeedPromise table state work x errors r state' work' errors' → (feedNumbers r).answer ≡ done → Recovers table state x ≡ false →
-      ByChains (table_of table) x (readingsOf state) (fedBy r state' errors')
+      ByChains (table_of table) x (readings_of state) (fed_by r state' errors')

@@ -2,14 +2,14 @@
 use Rattle.std.specs.Prelude.{◌≡◌, List, [], ◌∷◌, ℕ, length, take}
 use Rattle.meaning.specs.Answers.{startNumber, feedNumbers}
 use Rattle.meaning.specs.Basics.{AllOf}
-use Rattle.meaning.specs.KnownRuns.{Outcome, Run, seenState, knownRuns}
-use Rattle.meaning.specs.Limits.{maxErrors}
+use Rattle.meaning.specs.KnownRuns.{Outcome, Run, seen_state, known_runs}
+use Rattle.meaning.specs.Limits.{max_errors}
 use Rattle.meaning.specs.declared.ErrorRecord.{ErrorRecord}
 use Rattle.meaning.specs.declared.FeedAnswer.{FeedAnswer}
 use Rattle.meaning.specs.declared.StartAnswer.{StartAnswer}
 use Rattle.meaning.specs.declared.Term.{Term}
-use Rattle.state.specs.Layout.{stateLength, workLength}
-use Rattle.promises.specs.Buffers.{stateFor}
+use Rattle.state.specs.Layout.{state_len, work_len}
+use Rattle.promises.specs.Buffers.{state_for}
 use Rattle.promises.specs.Calls.{StartPromise, FeedPromise}
 
 -- One feed of a sequence: what it was lent beside the state, its answer, and what it left.
@@ -22,8 +22,8 @@ pub record Feeding : Type 0 where
   pub errors' : List ErrorRecord
 
 pub record Meets (table state : List ℕ) (x : Term) (c : Feeding) : Type 0 where
-  pub work-long : length c.work ≡ workLength
-  pub errors-long : length c.errors ≡ maxErrors
+  pub work_long : length c.work ≡ work_len
+  pub errors_long : length c.errors ≡ max_errors
   pub promise : FeedPromise table state c.work x c.errors c.answer c.state' c.work' c.errors'
 
 -- One feed for each term, each on the state that the call before it left.
@@ -37,8 +37,8 @@ AllMeet table state (x ∷ xs) (c ∷ more) = Meets table state x c × AllMeet t
 pub record Calls (run : Run) : Type 0 where
   pub state : List ℕ
   pub work : List ℕ
-  pub state-long : length state ≡ stateLength
-  pub work-long : length work ≡ workLength
+  pub state_long : length state ≡ state_len
+  pub work_long : length work ≡ work_len
   pub answer : StartAnswer
   pub state' : List ℕ
   pub work' : List ℕ
@@ -47,21 +47,21 @@ pub record Calls (run : Run) : Type 0 where
   pub meet : AllMeet run.table state' run.terms feeds
 
 -- What is seen of a call: its numbers, the readings that it left, and the error list up to the count.
-abbrev pub seenStart : (table : List ℕ) → StartAnswer → (state' : List ℕ) → Outcome
-seenStart table r state' = record { says = record { answer = startNumber r; errors = 0; walked = 0 }; readings = seenState (stateFor table state'); errors = [] }
+abbrev pub seen_start : (table : List ℕ) → StartAnswer → (state' : List ℕ) → Outcome
+seen_start table r state' = record { says = record { answer = startNumber r; errors = 0; walked = 0 }; readings = seen_state (state_for table state'); errors = [] }
 
-abbrev pub seenFeed : (table : List ℕ) → Feeding → Outcome
-seenFeed table c =
-    record { says = feedNumbers c.answer; readings = seenState (stateFor table c.state'); errors = take (feedNumbers c.answer).errors c.errors' }
+abbrev pub seen_feed : (table : List ℕ) → Feeding → Outcome
+seen_feed table c =
+    record { says = feedNumbers c.answer; readings = seen_state (state_for table c.state'); errors = take (feedNumbers c.answer).errors c.errors' }
 
 -- of the last call
-unfoldable pub lastSeen : (table : List ℕ) → Outcome → List Feeding → Outcome
-lastSeen table last [] = last
-lastSeen table last (c ∷ more) = lastSeen table (seenFeed table c) more
+unfoldable pub last_seen : (table : List ℕ) → Outcome → List Feeding → Outcome
+last_seen table last [] = last
+last_seen table last (c ∷ more) = last_seen table (seen_feed table c) more
 
-abbrev pub seenOf : (run : Run) → Calls run → Outcome
-seenOf run c = lastSeen run.table (seenStart run.table c.answer c.state') c.feeds
+abbrev pub seen_of : (run : Run) → Calls run → Outcome
+seen_of run c = last_seen run.table (seen_start run.table c.answer c.state') c.feeds
 
 -- P1 to P10: whatever calls make a run of the list, the last of them shows what the run is to leave.
 abbrev pub KnownCalls : Type 0
-KnownCalls = AllOf (λ (run : Run). (c : Calls run) → seenOf run c ≡ run.leaves) knownRuns
+KnownCalls = AllOf (λ (run : Run). (c : Calls run) → seen_of run c ≡ run.leaves) known_runs

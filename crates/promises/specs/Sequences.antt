@@ -8,17 +8,17 @@ use Rattle.meaning.specs.declared.QuestionAnswer.{QuestionAnswer}
 use Rattle.meaning.specs.declared.StackAnswer.{StackAnswer}
 use Rattle.meaning.specs.declared.StartAnswer.{StartAnswer}
 use Rattle.meaning.specs.declared.Term.{Term}
-use Rattle.state.specs.Readings.{count_of, usedOf}
-use Rattle.promises.specs.Buffers.{stateFor}
-use Rattle.promises.specs.Calls.{StartPromise, FeedPromise, takesOn, canEndOn, canRecoverOn, QuestionPromise, StackPromise, SameState}
+use Rattle.state.specs.Readings.{count_of, used_of}
+use Rattle.promises.specs.Buffers.{state_for}
+use Rattle.promises.specs.Calls.{StartPromise, FeedPromise, takes_on, can_end_on, can_recover_on, QuestionPromise, StackPromise, SameState}
 
 -- A call and its arguments, all but the state. Each call may have another table.
 pub data Request : Type 0 where
   start : (table work : List ℕ) → Request
   feed : (table work : List ℕ) → Term → List ErrorRecord → Request
   takes : (table work : List ℕ) → (class : ℕ) → Request
-  canEnd : (table work : List ℕ) → Request
-  canRecover : (table work : List ℕ) → Request
+  can_end : (table work : List ℕ) → Request
+  can_recover : (table work : List ℕ) → Request
   stack : (table : List ℕ) → (number : ℕ) → List SeenEntry → Request
 
 -- What a call gives back: its answer, with the numbers, and what it leaves in the work area and in the lent list.
@@ -43,8 +43,8 @@ abbrev pub Reply : Request → Type 0
 Reply (start table work) = StartReply
 Reply (feed table work x errors) = FeedReply
 Reply (takes table work class) = QuestionReply
-Reply (canEnd table work) = QuestionReply
-Reply (canRecover table work) = QuestionReply
+Reply (can_end table work) = QuestionReply
+Reply (can_recover table work) = QuestionReply
 Reply (stack table i entries) = StackReply
 
 -- a call's reply, and the state after it
@@ -61,9 +61,9 @@ pub record OnlyReads (promise : Type 0) (state state' : List ℕ) : Type 0 where
 abbrev pub Answered : (q : Request) → (state : List ℕ) → Left q → Type 0
 Answered (start table work) state c = StartPromise table state work c.reply.answer c.state' c.reply.work'
 Answered (feed table work x errors) state c = FeedPromise table state work x errors c.reply.answer c.state' c.reply.work' c.reply.errors'
-Answered (takes table work class) state c = OnlyReads (QuestionPromise (takesOn table state class) state work c.reply.answer c.reply.work') state c.state'
-Answered (canEnd table work) state c = OnlyReads (QuestionPromise (canEndOn table state) state work c.reply.answer c.reply.work') state c.state'
-Answered (canRecover table work) state c = OnlyReads (QuestionPromise (canRecoverOn table state) state work c.reply.answer c.reply.work') state c.state'
+Answered (takes table work class) state c = OnlyReads (QuestionPromise (takes_on table state class) state work c.reply.answer c.reply.work') state c.state'
+Answered (can_end table work) state c = OnlyReads (QuestionPromise (can_end_on table state) state work c.reply.answer c.reply.work') state c.state'
+Answered (can_recover table work) state c = OnlyReads (QuestionPromise (can_recover_on table state) state work c.reply.answer c.reply.work') state c.state'
 Answered (stack table i entries) state c = OnlyReads (StackPromise table state i entries c.reply.answer c.reply.entries') state c.state'
 
 -- A caller makes calls, any number of them, each chosen by the replies to those before it; so it may lend again what a call left in the work area or a list. A list of calls is one that does not look at them.
@@ -84,9 +84,9 @@ AllAnswered (asks q next) state run = Answered q state run.0 × AllAnswered (nex
 -- What stands in cells that are not in use and in slots past the count is what earlier calls left there; no call reads it.
 pub record SameButCells (state twin : List ℕ) : Type 0 where
   pub long : length state ≡ length twin
-  pub used : usedOf state ≡ usedOf twin
+  pub used : used_of state ≡ used_of twin
   pub count : count_of state ≡ count_of twin
-  pub states : (table : List ℕ) → SameState (stateFor table state) (stateFor table twin)
+  pub states : (table : List ℕ) → SameState (state_for table state) (state_for table twin)
 
 -- Two runs are the same: call by call the same request, and in the reply the same answer, numbers, work area and list; and the states after it are the same but for cells.
 pub record Exchange : Type 0 where

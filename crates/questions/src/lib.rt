@@ -1,9 +1,9 @@
 // The core of the three questions, over a checked table and a checked state: takes this class, can end, can recover.
 ghost use Rattle.std.specs.Prelude.{◌≡◌};
 ghost use Rattle.meaning.specs.TableFile.{table_of};
-ghost use Rattle.meaning.specs.Questions.{takes, canEnd, someRecovers, canRecover};
-ghost use Rattle.state.specs.Layout.{readingsAt};
-ghost use Rattle.state.specs.Readings.{readingsFrom, readingsOf};
+ghost use Rattle.meaning.specs.Questions.{takes, can_end, some_recovers, can_recover};
+ghost use Rattle.state.specs.Layout.{readings_at};
+ghost use Rattle.state.specs.Readings.{readings_from, readings_of};
 ghost use Rattle.questions.specs.Asking.{AsksList, AsksState};
 
 use meaning::{END_CLASS, QuestionAnswer, View};
@@ -19,7 +19,7 @@ fn takes_from(
     marks: &mut [u8],
 ) -> QuestionAnswer
     requires { AsksList table.now view state.now i count marks.old }
-    ensures { result ≡ takes (table_of table.now) class (readingsFrom state.now readingsAt i count) }
+    ensures { result ≡ takes (table_of table.now) class (readings_from state.now readings_at i count) }
 {
     if count == 0 {
         return QuestionAnswer::No;
@@ -44,7 +44,7 @@ fn some_recovers(
     marks: &mut [u8],
 ) -> QuestionAnswer
     requires { AsksList table.now view state.now i count marks.old }
-    ensures { result ≡ someRecovers (table_of table.now) (readingsFrom state.now readingsAt i count) }
+    ensures { result ≡ some_recovers (table_of table.now) (readings_from state.now readings_at i count) }
 {
     if count == 0 {
         return QuestionAnswer::No;
@@ -62,7 +62,7 @@ fn some_recovers(
 // Takes this class?
 pub fn takes(table: &[u8], view: View, state: &[u8], class: u16, marks: &mut [u8]) -> QuestionAnswer
     requires { AsksState table.now view state.now marks.old }
-    ensures { result ≡ takes (table_of table.now) class (readingsOf state.now) }
+    ensures { result ≡ takes (table_of table.now) class (readings_of state.now) }
 {
     let count = state::reading_count(state);
     takes_from(table, view, state, class, 0, count, marks)
@@ -71,7 +71,7 @@ pub fn takes(table: &[u8], view: View, state: &[u8], class: u16, marks: &mut [u8
 // Can end?
 pub fn can_end(table: &[u8], view: View, state: &[u8], marks: &mut [u8]) -> QuestionAnswer
     requires { AsksState table.now view state.now marks.old }
-    ensures { result ≡ canEnd (table_of table.now) (readingsOf state.now) }
+    ensures { result ≡ can_end (table_of table.now) (readings_of state.now) }
 {
     takes(table, view, state, END_CLASS, marks)
 }
@@ -79,7 +79,7 @@ pub fn can_end(table: &[u8], view: View, state: &[u8], marks: &mut [u8]) -> Ques
 // Can recover?
 pub fn can_recover(table: &[u8], view: View, state: &[u8], marks: &mut [u8]) -> QuestionAnswer
     requires { AsksState table.now view state.now marks.old }
-    ensures { result ≡ canRecover (table_of table.now) (readingsOf state.now) }
+    ensures { result ≡ can_recover (table_of table.now) (readings_of state.now) }
 {
     if view.recovers {
         let count = state::reading_count(state);

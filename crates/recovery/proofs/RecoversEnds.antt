@@ -11,15 +11,15 @@ use Rattle.meaning.specs.Applying.{unplanned}
 use Rattle.meaning.specs.Basics.{if◌then◌else◌, isNil}
 use Rattle.meaning.specs.Outcome.{Fed as MeantFed}
 use Rattle.meaning.specs.Readings.{Reading}
-use Rattle.meaning.specs.Recovery.{Stage as Meant, came, termTaken, noneRecovered, afterRecovery}
+use Rattle.meaning.specs.Recovery.{Stage as Meant, came, term_taken, none_recovered, after_recovery}
 use Rattle.meaning.specs.TableFile.{Table, table_of}
 use Rattle.meaning.specs.declared.Refusal.{Refusal}
 use Rattle.meaning.specs.declared.Term.{Term}
 use Rattle.meaning.specs.declared.View.{View}
-use Rattle.state.specs.Layout.{resultsAt, left_at}
-use Rattle.state.specs.Readings.{readingsFrom, resultsOf}
-use Rattle.state.proofs.Lists.{length-readings}
-use Rattle.actions.specs.Errors.{errorsOf}
+use Rattle.state.specs.Layout.{results_at, left_at}
+use Rattle.state.specs.Readings.{readings_from, results_of}
+use Rattle.state.proofs.Lists.{length_readings}
+use Rattle.actions.specs.Errors.{errors_of}
 use Rattle.taking.specs.Stages.{made_of}
 use Rattle.taking.specs.declared.SoFar.{SoFar}
 use Rattle.feeding.specs.Ending.{Holds, EndReady, FedIs}
@@ -27,47 +27,47 @@ use Rattle.feeding.specs.Unplanned.{UnplannedDone}
 use Rattle.feeding.specs.declared.Ended.{Ended}
 use Rattle.feeding.specs.declared.Fed.{Fed}
 use Rattle.feeding.specs.declared.Fed.TheVariants as fed
-use Rattle.feeding.proofs.Endings.{area-after}
+use Rattle.feeding.proofs.Endings.{area_after}
 use Rattle.recovery.specs.Stages.{Stops, Comes, StageIs}
 use Rattle.recovery.specs.Again.{AgainReady, AgainDone}
-use Rattle.recovery.specs.Recovering.{SecondReady, NoneDone, secondStage, TermDone, LookedDone}
+use Rattle.recovery.specs.Recovering.{SecondReady, NoneDone, second_stage, TermDone, LookedDone}
 use Rattle.recovery.specs.declared.Stage.{Stage}
 use Rattle.recovery.specs.declared.Stage.TheVariants.{Stopped, Came}
 
 -- whether a list has readings, by its count
-nil_is : (w : List ℕ) (at k : ℕ) → isNil (resultsOf w at k) ≡ eqb k 0
-unfolding readingsFrom
+nil_is : (w : List ℕ) (at k : ℕ) → isNil (results_of w at k) ≡ eqb k 0
+unfolding readings_from
 nil_is w at zero = refl
 nil_is w at (suc k) = sym (ne_eqb (suc k) 0 (λ z. omega arith))
 
 -- No reading results: the list of results is empty, and the readings left have their records.
-pub none-recovered-way : (w : List ℕ) (so : SoFar) (left : ℕ) → EndReady w so left → (w' : List ℕ) (r : ℕ) → UnplannedDone (readingsFrom w left_at 0 left) w so.counts.errors w' r →
+pub none_recovered_way : (w : List ℕ) (so : SoFar) (left : ℕ) → EndReady w so left → (w' : List ℕ) (r : ℕ) → UnplannedDone (readings_from w left_at 0 left) w so.counts.errors w' r →
     NoneDone w so left w' (record { taken = false; list = 41824; counts = record { cells = so.counts.cells; results = 0; errors = r }; walked = so.walked })
-unfolding readingsFrom
-none-recovered-way w so left y w' r d rs e =
-    let n = d.count-is in let k = length-readings w 41920 0 left in
+unfolding readings_from
+none_recovered_way w so left y w' r d rs e =
+    let n = d.count_is in let k = length_readings w 41920 0 left in
     let room = y.room in let few = y.few in let v = y.walked in
     record {
       answer = refl;
       readings = refl;
-      errors = d.errors-are ∙ ap (λ (l : List Reading). errorsOf w so.counts.errors ++ map unplanned l) e;
+      errors = d.errors_are ∙ ap (λ (l : List Reading). errors_of w so.counts.errors ++ map unplanned l) e;
       walked = refl;
       few = v;
-      area = area-after 41824 w so.counts.cells 0 so.counts.errors _ w' r y.area.long (omega arith) (omega arith) y.area.cells (omega arith) (λ j p q. absurd (omega arith)) d (omega arith);
+      area = area_after 41824 w so.counts.cells 0 so.counts.errors _ w' r y.area.long (omega arith) (omega arith) y.area.cells (omega arith) (λ j p q. absurd (omega arith)) d (omega arith);
     }
 
 -- The second stage begins: no result, no chain, and the errors so far.
-abbrev second-of : SoFar → SoFar
-second-of so = record { counts = record { cells = so.counts.cells; results = 0; errors = so.counts.errors }; walked = so.walked; chains = 0 }
+abbrev second_of : SoFar → SoFar
+second_of so = record { counts = record { cells = so.counts.cells; results = 0; errors = so.counts.errors }; walked = so.walked; chains = 0 }
 
 -- and ends: with its results
 abbrev ended : SoFar → Ended
 ended so = record { taken = not (eqb so.counts.results 0); list = 41920; counts = so.counts; walked = so.walked }
 
 module _ (s : List ℕ) (view : View) (w : List ℕ) (so : SoFar) (y : SecondReady s view w so) where
-  pub second-begins : AgainReady s view w so.counts.results (second-of so)
-  second-begins =
-      let far = y.walked in let few = y.area.results in let errors = y.few-errors in
+  pub second_begins : AgainReady s view w so.counts.results (second_of so)
+  second_begins =
+      let far = y.walked in let few = y.area.results in let errors = y.few_errors in
       record {
         belongs = y.belongs;
         area = record { long = y.area.long; low = omega arith; high = omega arith; cells = y.area.cells; results = omega arith; errors = y.area.errors; stand = λ j p q. absurd (omega arith) };
@@ -78,47 +78,47 @@ module _ (s : List ℕ) (view : View) (w : List ℕ) (so : SoFar) (y : SecondRea
               found = y.found;
               cells = so.counts.cells;
               errors = so.counts.errors;
-              few-errors = errors;
+              few_errors = errors;
               paced = record { chains = omega arith; unborn = λ q. refl; results = omega arith; both = omega arith };
             };
         walked = omega arith;
       }
 
-  module _ (x : Term) (w' : List ℕ) (q : Stage) (h : AgainDone (table_of s) x w so.counts.results (second-of so) w' q) where
+  module _ (x : Term) (w' : List ℕ) (q : Stage) (h : AgainDone (table_of s) x w so.counts.results (second_of so) w' q) where
     abbrev meant : Meant
-    meant = secondStage (table_of s) x w so
+    meant = second_stage (table_of s) x w so
 
-    stage_is : StageIs left_at w (second-of so) (1024 * so.counts.results) meant w' q
-    unfolding readingsFrom
+    stage_is : StageIs left_at w (second_of so) (1024 * so.counts.results) meant w' q
+    unfolding readings_from
     stage_is = h
 
-    pub second-stopped : (k : Refusal) → q ≡ Stopped k → TermDone (table_of s) x w so w' (fed.Refused k)
-    second-stopped k e rs next =
-        let g : Stops w meant k w' = subst (StageIs left_at w (second-of so) (1024 * so.counts.results) meant w') e stage_is in
-        ap (termTaken rs next) g.is
+    pub second_stopped : (k : Refusal) → q ≡ Stopped k → TermDone (table_of s) x w so w' (fed.Refused k)
+    second_stopped k e rs next =
+        let g : Stops w meant k w' = subst (StageIs left_at w (second_of so) (1024 * so.counts.results) meant w') e stage_is in
+        ap (term_taken rs next) g.is
 
-    pub second-came : (so' : SoFar) → q ≡ Came so' → TermDone (table_of s) x w so w' (fed.Ended (ended so'))
-    second-came so' e rs next =
-        let g : Comes left_at w (second-of so) (1024 * so.counts.results) meant w' so' = subst (StageIs left_at w (second-of so) (1024 * so.counts.results) meant w') e stage_is in
+    pub second_came : (so' : SoFar) → q ≡ Came so' → TermDone (table_of s) x w so w' (fed.Ended (ended so'))
+    second_came so' e rs next =
+        let g : Comes left_at w (second_of so) (1024 * so.counts.results) meant w' so' = subst (StageIs left_at w (second_of so) (1024 * so.counts.results) meant w') e stage_is in
         let far = g.few in let all = y.walked in let few = y.area.results in
-        subst (λ (m : Meant). Holds w' (ended so') (termTaken rs next m)) (sym g.is)
-        (record { answer = answer-is; readings = refl; errors = refl; walked = refl; few = omega arith; area = g.further.area })
+        subst (λ (m : Meant). Holds w' (ended so') (term_taken rs next m)) (sym g.is)
+        (record { answer = answer_is; readings = refl; errors = refl; walked = refl; few = omega arith; area = g.further.area })
       where
         by : (b : Bool) → (if b then notTaken else done) ≡ (if not b then done else notTaken)
         by true = refl
         by false = refl
 
-        answer-is : (if isNil (resultsOf w' 41920 so'.counts.results) then notTaken else done) ≡ (if not (eqb so'.counts.results 0) then done else notTaken)
-        answer-is = rw (nil_is w' 41920 so'.counts.results) (by (eqb so'.counts.results 0))
+        answer_is : (if isNil (results_of w' 41920 so'.counts.results) then notTaken else done) ≡ (if not (eqb so'.counts.results 0) then done else notTaken)
+        answer_is = rw (nil_is w' 41920 so'.counts.results) (by (eqb so'.counts.results 0))
 
 -- Which end it is.
 module _ (t : Table) (x : Term) (w : List ℕ) (so : SoFar) (left : ℕ) where
-  by_count : (rs : List Reading) (next : ℕ) → afterRecovery t x rs next (came (made_of resultsAt w so.counts) so.walked so.chains) ≡
-      (if eqb so.counts.results 0 then noneRecovered rs (made_of resultsAt w so.counts) so.walked else termTaken rs next (secondStage t x w so))
+  by_count : (rs : List Reading) (next : ℕ) → after_recovery t x rs next (came (made_of results_at w so.counts) so.walked so.chains) ≡
+      (if eqb so.counts.results 0 then none_recovered rs (made_of results_at w so.counts) so.walked else term_taken rs next (second_stage t x w so))
   by_count rs next = rw (nil_is w 41824 so.counts.results)
 
-  pub looked-none : (w' : List ℕ) (e : Ended) → so.counts.results ≡ 0 → NoneDone w so left w' e → LookedDone t x w so left w' (fed.Ended e)
-  looked-none w' e z h rs next f = subst (Holds w' e) (sym (by_count rs next ∙ rw (eq-eqb so.counts.results 0 z))) (h rs f)
+  pub looked_none : (w' : List ℕ) (e : Ended) → so.counts.results ≡ 0 → NoneDone w so left w' e → LookedDone t x w so left w' (fed.Ended e)
+  looked_none w' e z h rs next f = subst (Holds w' e) (sym (by_count rs next ∙ rw (eq-eqb so.counts.results 0 z))) (h rs f)
 
-  pub looked-some : (w' : List ℕ) (q : Fed) → (so.counts.results ≡ 0 → ⊥) → TermDone t x w so w' q → LookedDone t x w so left w' q
-  looked-some w' q z h rs next f = subst (λ (m : MeantFed). FedIs m rs next w' q) (sym (by_count rs next ∙ rw (ne_eqb so.counts.results 0 z))) (h rs next)
+  pub looked_some : (w' : List ℕ) (q : Fed) → (so.counts.results ≡ 0 → ⊥) → TermDone t x w so w' q → LookedDone t x w so left w' q
+  looked_some w' q z h rs next f = subst (λ (m : MeantFed). FedIs m rs next w' q) (sym (by_count rs next ∙ rw (ne_eqb so.counts.results 0 z))) (h rs next)

@@ -1,10 +1,10 @@
 // The second stage: the recovered readings take the term, or stay with a longer error entry.
 ghost use Rattle.std.specs.Prelude.{◌≡◌, ◌+◌, ◌*◌, ◌≤◌, length};
 ghost use Rattle.meaning.specs.TableFile.{table_of};
-ghost use Rattle.cells.specs.Pool.{cellSize, cell_at};
+ghost use Rattle.cells.specs.Pool.{cell_size, cell_at};
 ghost use Rattle.state.specs.Layout.{left_at};
 ghost use Rattle.taking.specs.Taking.{TakeReady};
-ghost use Rattle.recovery.specs.Again.{AgainReady, AgainDone, TurnDone, longerCell, StayReady, StayDone};
+ghost use Rattle.recovery.specs.Again.{AgainReady, AgainDone, TurnDone, longer_cell, StayReady, StayDone};
 
 use super::Stage;
 use actions::{Counts, Top};
@@ -15,8 +15,8 @@ use taking::{SoFar, Taking};
 
 // The error entry's cell, its span to the term's end.
 fn longer_cell(work: &[u8], reading: Top, end: u32) -> Cell
-    requires { cellSize * reading.cell.0 + cellSize ≤ length work.now }
-    ensures { result ≡ longerCell (cell_at work.now reading.cell.0) end }
+    requires { cell_size * reading.cell.0 + cell_size ≤ length work.now }
+    ensures { result ≡ longer_cell (cell_at work.now reading.cell.0) end }
 {
     let x = cells::get_cell(work, reading.cell);
     let parent = x.parent;

@@ -1,9 +1,9 @@
 // The first stage: the readings, first to last, look for a height at which the error class can be shifted.
 ghost use Rattle.std.specs.Prelude.{◌≡◌};
-ghost use Rattle.meaning.specs.Readings.{heldBy};
+ghost use Rattle.meaning.specs.Readings.{held_by};
 ghost use Rattle.meaning.specs.TableFile.{table_of};
 ghost use Rattle.actions.specs.Acting.{Pops};
-ghost use Rattle.recovery.specs.Looking.{others, emptyTerm, longerTerm, belowTop, HeldReady, OneReady, OneDone, AllReady, AllDone};
+ghost use Rattle.recovery.specs.Looking.{others, empty_term, longer_term, below_top, HeldReady, OneReady, OneDone, AllReady, AllDone};
 
 use super::Stage;
 use actions::Top;
@@ -20,7 +20,7 @@ struct Waiting {
 // The error entry's term where nothing was popped: empty, at the top entry's end.
 fn empty_term(work: &[u8], reading: Top) -> Term
     requires { Pops work.now reading 0 }
-    ensures { result ≡ emptyTerm work.now reading }
+    ensures { result ≡ empty_term work.now reading }
 {
     let x = cells::get_cell(work, reading.cell);
     Term {
@@ -34,7 +34,7 @@ fn empty_term(work: &[u8], reading: Top) -> Term
 // Its term after the pop of the top entry: from there on, to the same end.
 fn longer_term(work: &[u8], reading: Top, term: Term) -> Term
     requires { Pops work.now reading 0 }
-    ensures { result ≡ longerTerm work.now reading term }
+    ensures { result ≡ longer_term work.now reading term }
 {
     let x = cells::get_cell(work, reading.cell);
     Term {
@@ -48,7 +48,7 @@ fn longer_term(work: &[u8], reading: Top, term: Term) -> Term
 // What is left of the reading after that pop.
 fn below_top(work: &[u8], reading: Top) -> Top
     requires { Pops work.now reading 0 }
-    ensures { result ≡ belowTop work.now reading }
+    ensures { result ≡ below_top work.now reading }
 {
     let x = cells::get_cell(work, reading.cell);
     let cell = x.parent;
@@ -62,7 +62,7 @@ fn below_top(work: &[u8], reading: Top) -> Top
 // Whether a reading that still waits, or a result of recovery, has the entry in this cell.
 fn held(state: &[u8], work: &[u8], waiting: Waiting, so: SoFar, cell: CellNo) -> bool
     requires { HeldReady state.now work.now waiting so }
-    ensures { result ≡ heldBy (others state.now waiting work.now so) cell.0 }
+    ensures { result ≡ held_by (others state.now waiting work.now so) cell.0 }
 {
     let counts = so.counts;
     state::held_by_others(

@@ -2,31 +2,31 @@
 use mathlib.Core.Path.{◌≡◌, refl}
 use Prim.Native.Nat.{◌+◌, ◌*◌, ◌≤◌}
 use native.Mathlib.Omega.{arith}
-use Rattle.meaning.specs.Bounds.{maxBirths}
-use Rattle.meaning.specs.Limits.{maxReadings, maxHeight, maxWalked, maxErrors, maxBytes}
-use Rattle.cells.specs.Pool.{cellSize}
-use Rattle.state.specs.Layout.{stateCells, readingsAt, slotSize, countAt, usedAt, stateLength, workCells, marksAt, resultsAt, left_at, errorsAt, mapAt, workLength}
+use Rattle.meaning.specs.Bounds.{max_births}
+use Rattle.meaning.specs.Limits.{max_readings, max_height, max_walked, max_errors, max_bytes}
+use Rattle.cells.specs.Pool.{cell_size}
+use Rattle.state.specs.Layout.{state_cells, readings_at, slot_size, count_at, used_at, state_len, work_cells, marks_at, results_at, left_at, errors_at, map_at, work_len}
 
 pub record StateAreas : Type 0 where
-  pub cells : stateCells ≡ maxReadings * maxHeight
-  pub readings : readingsAt ≡ cellSize * stateCells
-  pub count : countAt ≡ readingsAt + slotSize * maxReadings
-  pub used : usedAt ≡ countAt + 2
-  pub end : stateLength ≡ usedAt + 2
-  pub small : stateLength ≤ maxBytes
+  pub cells : state_cells ≡ max_readings * max_height
+  pub readings : readings_at ≡ cell_size * state_cells
+  pub count : count_at ≡ readings_at + slot_size * max_readings
+  pub used : used_at ≡ count_at + 2
+  pub end : state_len ≡ used_at + 2
+  pub small : state_len ≤ max_bytes
 
-pub state-areas : StateAreas
-state-areas = record { cells = refl; readings = refl; count = refl; used = refl; end = refl; small = omega arith }
+pub state_areas : StateAreas
+state_areas = record { cells = refl; readings = refl; count = refl; used = refl; end = refl; small = omega arith }
 
 pub record WorkAreas : Type 0 where
-  pub cells : workCells ≡ stateCells + maxBirths
-  pub marks : marksAt ≡ cellSize * workCells
-  pub results : resultsAt ≡ marksAt + 4 * maxWalked
-  pub left : left_at ≡ resultsAt + slotSize * maxReadings
-  pub errors : errorsAt ≡ left_at + slotSize * maxReadings
-  pub map : mapAt ≡ errorsAt + 8 * maxErrors
-  pub end : workLength ≡ mapAt + 2 * workCells
-  pub small : workLength ≤ maxBytes
+  pub cells : work_cells ≡ state_cells + max_births
+  pub marks : marks_at ≡ cell_size * work_cells
+  pub results : results_at ≡ marks_at + 4 * max_walked
+  pub left : left_at ≡ results_at + slot_size * max_readings
+  pub errors : errors_at ≡ left_at + slot_size * max_readings
+  pub map : map_at ≡ errors_at + 8 * max_errors
+  pub end : work_len ≡ map_at + 2 * work_cells
+  pub small : work_len ≤ max_bytes
 
-pub work-areas : WorkAreas
-work-areas = record { cells = refl; marks = refl; results = refl; left = refl; errors = refl; map = refl; end = refl; small = omega arith }
+pub work_areas : WorkAreas
+work_areas = record { cells = refl; marks = refl; results = refl; left = refl; errors = refl; map = refl; end = refl; small = omega arith }

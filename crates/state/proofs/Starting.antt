@@ -6,128 +6,128 @@ use mathlib.Core.List.{List, [], ◌∷◌}
 use Prim.Native.Nat.{ℕ, ◌+◌, ◌<◌, ◌≤◌}
 use native.Mathlib.Omega.{arith}
 use lib.ListN.{length}
-use Rattle.meaning.specs.Readings.{Entry, startReading}
-use Rattle.meaning.specs.TableFile.{Table, startState}
+use Rattle.meaning.specs.Readings.{Entry, start_reading}
+use Rattle.meaning.specs.TableFile.{Table, start_state}
 use Rattle.meaning.specs.declared.StateNo.{StateNo}
-use Rattle.numbers.specs.Writing.{putU16, Agree, Apart, u16-back, u16-putU16, agree-putU16, length-putU16}
-use Rattle.cells.specs.Pool.{cellSize, cell_at, putCell}
-use Rattle.cells.specs.Stacks.{entriesOf, Linked}
+use Rattle.numbers.specs.Writing.{put_u16, Agree, Apart, u16_back, u16_put_u16, agree_put_u16, length_put_u16}
+use Rattle.cells.specs.Pool.{cell_size, cell_at, put_cell}
+use Rattle.cells.specs.Stacks.{entries_of, Linked}
 use Rattle.cells.specs.declared.Cell.{Cell}
-use Rattle.cells.proofs.Records.{length-putCell, agree-putCell, cell_agree, cell-back}
-use Rattle.state.specs.Layout.{readingsAt, slotSize, countAt, usedAt, stateLength}
-use Rattle.state.specs.Readings.{slot_at, putSlot, topAt, heightAt, count_of, usedOf, readingAt, readingsFrom, readingsOf, AllStand}
-use Rattle.state.specs.Check.{validState}
-use Rattle.state.specs.Areas.{startCell, startSlot, start_of, Started}
+use Rattle.cells.proofs.Records.{length_put_cell, agree_put_cell, cell_agree, cell_back}
+use Rattle.state.specs.Layout.{readings_at, slot_size, count_at, used_at, state_len}
+use Rattle.state.specs.Readings.{slot_at, put_slot, top_at, height_at, count_of, used_of, reading_at, readings_from, readings_of, AllStand}
+use Rattle.state.specs.Check.{valid_state}
+use Rattle.state.specs.Areas.{start_cell, start_slot, start_of, Started}
 use Rattle.state.specs.declared.Slot.{Slot}
-use Rattle.state.proofs.Slots.{length-putSlot, agree-putSlot, slot-agree, slot-back}
-use Rattle.state.proofs.Valid.{valid-from}
+use Rattle.state.proofs.Slots.{length_put_slot, agree_put_slot, slot_agree, slot_back}
+use Rattle.state.proofs.Valid.{valid_from}
 
-module _ (q : StateNo) (s : List ℕ) (l : length s ≡ stateLength) where
+module _ (q : StateNo) (s : List ℕ) (l : length s ≡ state_len) where
   -- after the cell, the slot, the count
   s₁ : List ℕ
-  s₁ = putCell s 0 (startCell q)
+  s₁ = put_cell s 0 (start_cell q)
 
   s₂ : List ℕ
-  s₂ = putSlot s₁ readingsAt 0 startSlot
+  s₂ = put_slot s₁ readings_at 0 start_slot
 
   s₃ : List ℕ
-  s₃ = putU16 s₂ countAt 1
+  s₃ = put_u16 s₂ count_at 1
 
-  len₁ : length s₁ ≡ stateLength
+  len₁ : length s₁ ≡ state_len
   unfolding s₁
-  len₁ = length-putCell s 0 (startCell q) ∙ l
+  len₁ = length_put_cell s 0 (start_cell q) ∙ l
 
-  len₂ : length s₂ ≡ stateLength
+  len₂ : length s₂ ≡ state_len
   unfolding s₂
-  len₂ = length-putSlot s₁ readingsAt 0 startSlot ∙ len₁
+  len₂ = length_put_slot s₁ readings_at 0 start_slot ∙ len₁
 
-  len₃ : length s₃ ≡ stateLength
+  len₃ : length s₃ ≡ state_len
   unfolding s₃
-  len₃ = length-putU16 s₂ countAt 1 ∙ len₂
+  len₃ = length_put_u16 s₂ count_at 1 ∙ len₂
 
   -- A window that none of the four writes meets.
-  start-kept : (j m : ℕ) → cellSize ≤ j → Apart readingsAt slotSize j m → j + m ≤ countAt → Agree (start_of q s) s j m
+  start_kept : (j m : ℕ) → cell_size ≤ j → Apart readings_at slot_size j m → j + m ≤ count_at → Agree (start_of q s) s j m
   unfolding start_of s₁ s₂ s₃
-  start-kept j m a b d k h i =
-      agree-putU16 s₃ usedAt 1 j m (inr (omega arith)) k h i
-      ∙ agree-putU16 s₂ countAt 1 j m (inr (omega arith)) k h i
-      ∙ agree-putSlot s₁ readingsAt 0 startSlot j m b k h i
-      ∙ agree-putCell s 0 (startCell q) j m (inl (omega arith)) k h i
+  start_kept j m a b d k h i =
+      agree_put_u16 s₃ used_at 1 j m (inr (omega arith)) k h i
+      ∙ agree_put_u16 s₂ count_at 1 j m (inr (omega arith)) k h i
+      ∙ agree_put_slot s₁ readings_at 0 start_slot j m b k h i
+      ∙ agree_put_cell s 0 (start_cell q) j m (inl (omega arith)) k h i
 
-  start-count : count_of (start_of q s) ≡ 1
+  start_count : count_of (start_of q s) ≡ 1
   unfolding start_of s₁ s₂ s₃
-  start-count = u16-putU16 s₃ usedAt 1 countAt (inr (omega arith)) ∙ u16-back s₂ countAt 1 (omega (arith, len₂))
+  start_count = u16_put_u16 s₃ used_at 1 count_at (inr (omega arith)) ∙ u16_back s₂ count_at 1 (omega (arith, len₂))
 
-  start-used : usedOf (start_of q s) ≡ 1
+  start_used : used_of (start_of q s) ≡ 1
   unfolding start_of s₁ s₂ s₃
-  start-used = u16-back s₃ usedAt 1 (omega (arith, len₃))
+  start_used = u16_back s₃ used_at 1 (omega (arith, len₃))
 
-  start-slot : slot_at (start_of q s) readingsAt 0 ≡ startSlot
+  start_slot_lem : slot_at (start_of q s) readings_at 0 ≡ start_slot
   unfolding start_of s₁ s₂ s₃
-  start-slot =
-      slot-agree _ s₃ readingsAt 0 (agree-putU16 s₃ usedAt 1 _ 6 (inr (omega arith)))
-      ∙ slot-agree _ s₂ readingsAt 0 (agree-putU16 s₂ countAt 1 _ 6 (inr (omega arith)))
-      ∙ slot-back s₁ readingsAt 0 startSlot (omega (arith, len₁))
+  start_slot_lem =
+      slot_agree _ s₃ readings_at 0 (agree_put_u16 s₃ used_at 1 _ 6 (inr (omega arith)))
+      ∙ slot_agree _ s₂ readings_at 0 (agree_put_u16 s₂ count_at 1 _ 6 (inr (omega arith)))
+      ∙ slot_back s₁ readings_at 0 start_slot (omega (arith, len₁))
 
-  start_cell : cell_at (start_of q s) 0 ≡ startCell q
+  cell_of_start : cell_at (start_of q s) 0 ≡ start_cell q
   unfolding start_of s₁ s₂ s₃
-  start_cell =
-      cell_agree _ s₃ 0 (agree-putU16 s₃ usedAt 1 0 18 (inr (omega arith)))
-      ∙ cell_agree _ s₂ 0 (agree-putU16 s₂ countAt 1 0 18 (inr (omega arith)))
-      ∙ cell_agree _ s₁ 0 (agree-putSlot s₁ readingsAt 0 startSlot 0 18 (inr (omega arith)))
-      ∙ cell-back s 0 (startCell q) (omega (arith, l))
+  cell_of_start =
+      cell_agree _ s₃ 0 (agree_put_u16 s₃ used_at 1 0 18 (inr (omega arith)))
+      ∙ cell_agree _ s₂ 0 (agree_put_u16 s₂ count_at 1 0 18 (inr (omega arith)))
+      ∙ cell_agree _ s₁ 0 (agree_put_slot s₁ readings_at 0 start_slot 0 18 (inr (omega arith)))
+      ∙ cell_back s 0 (start_cell q) (omega (arith, l))
 
-  start-top : topAt (start_of q s) readingsAt 0 ≡ 0
-  start-top = ap (λ (r : Slot). r.top.0) start-slot
+  start_top : top_at (start_of q s) readings_at 0 ≡ 0
+  start_top = ap (λ (r : Slot). r.top.0) start_slot_lem
 
-  start-height : heightAt (start_of q s) readingsAt 0 ≡ 1
-  start-height = ap (λ (c : ℕ). (cell_at (start_of q s) c).height) start-top ∙ ap (λ (x : Cell). x.height) start_cell
+  start_height : height_at (start_of q s) readings_at 0 ≡ 1
+  start_height = ap (λ (c : ℕ). (cell_at (start_of q s) c).height) start_top ∙ ap (λ (x : Cell). x.height) cell_of_start
 
-  startEntry : Entry
-  startEntry = record { born = 0; state = q.0; value = 0; start = 0; end = 0 }
+  start_entry : Entry
+  start_entry = record { born = 0; state = q.0; value = 0; start = 0; end = 0 }
 
-  start-stack : (readingAt (start_of q s) readingsAt 0).stack ≡ startEntry ∷ []
-  unfolding entriesOf startEntry
-  start-stack = rw (start-height, start-top, start_cell)
+  start_stack : (reading_at (start_of q s) readings_at 0).stack ≡ start_entry ∷ []
+  unfolding entries_of start_entry
+  start_stack = rw (start_height, start_top, cell_of_start)
 
-  start-list : readingsOf (start_of q s) ≡ (record { mark = 0; stack = startEntry ∷ [] }) ∷ []
-  unfolding readingsFrom
-  start-list =
-      let mark : (slot_at (start_of q s) readingsAt 0).mark ≡ 0 = ap (λ (r : Slot). r.mark) start-slot in
-      ap (readingsFrom (start_of q s) readingsAt 0) start-count ∙ (λ i. (record { mark = mark i; stack = start-stack i }) ∷ [])
+  start_list : readings_of (start_of q s) ≡ (record { mark = 0; stack = start_entry ∷ [] }) ∷ []
+  unfolding readings_from
+  start_list =
+      let mark : (slot_at (start_of q s) readings_at 0).mark ≡ 0 = ap (λ (r : Slot). r.mark) start_slot_lem in
+      ap (readings_from (start_of q s) readings_at 0) start_count ∙ (λ i. (record { mark = mark i; stack = start_stack i }) ∷ [])
 
-  start-readings : (t : Table) → startState t ≡ q.0 → readingsOf (start_of q s) ≡ startReading t 0 ∷ []
-  unfolding startReading startEntry
-  start-readings t e = rw e start-list
+  start_readings : (t : Table) → start_state t ≡ q.0 → readings_of (start_of q s) ≡ start_reading t 0 ∷ []
+  unfolding start_reading start_entry
+  start_readings t e = rw e start_list
 
-  start-stands : AllStand (usedOf (start_of q s)) (start_of q s) readingsAt 0 (count_of (start_of q s))
+  start_stands : AllStand (used_of (start_of q s)) (start_of q s) readings_at 0 (count_of (start_of q s))
   unfolding Linked
-  start-stands j a b =
-      let z : j ≡ 0 = omega (arith, start-count) in
-      rw (z, start-used)
+  start_stands j a b =
+      let z : j ≡ 0 = omega (arith, start_count) in
+      rw (z, start_used)
       (record {
-        low = rw start-height (omega arith);
-        high = rw start-height (omega arith);
-        stack = rw (start-height, start-top, start_cell) (omega arith, refl, tt);
+        low = rw start_height (omega arith);
+        high = rw start_height (omega arith);
+        stack = rw (start_height, start_top, cell_of_start) (omega arith, refl, tt);
       })
 
-  start-valid : (m : ℕ) → q.0 < m → validState m (start_of q s) ≡ true
-  unfolding startEntry
-  start-valid m h =
-      let c = start-count in
-      let u = start-used in
-      valid-from m (start_of q s) (omega arith) (omega arith) start-stands (rw start-list ((h, tt), tt))
+  start_valid : (m : ℕ) → q.0 < m → valid_state m (start_of q s) ≡ true
+  unfolding start_entry
+  start_valid m h =
+      let c = start_count in
+      let u = start_used in
+      valid_from m (start_of q s) (omega arith) (omega arith) start_stands (rw start_list ((h, tt), tt))
 
-pub started : (q : StateNo) (s t₁ t₂ t₃ t₄ : List ℕ) → length s ≡ stateLength → t₁ ≡ putCell s 0 (startCell q) → t₂ ≡ putSlot t₁ readingsAt 0 startSlot →
-    t₃ ≡ putU16 t₂ countAt 1 → t₄ ≡ putU16 t₃ usedAt 1 → Started q s t₄
+pub started : (q : StateNo) (s t₁ t₂ t₃ t₄ : List ℕ) → length s ≡ state_len → t₁ ≡ put_cell s 0 (start_cell q) → t₂ ≡ put_slot t₁ readings_at 0 start_slot →
+    t₃ ≡ put_u16 t₂ count_at 1 → t₄ ≡ put_u16 t₃ used_at 1 → Started q s t₄
 unfolding start_of
 started q s t₁ t₂ t₃ t₄ l a b c d =
     let e : t₄ ≡ start_of q s = d ∙ rw (c, b, a) in
     rw e
     (record {
       exact = refl;
-      readings = start-readings q s l;
-      valid = start-valid q s l;
-      cells = start-kept q s l 18 18414 (omega arith) (inr (omega arith)) (omega arith);
-      slots = start-kept q s l 18438 90 (omega arith) (inl (omega arith)) (omega arith);
+      readings = start_readings q s l;
+      valid = start_valid q s l;
+      cells = start_kept q s l 18 18414 (omega arith) (inr (omega arith)) (omega arith);
+      slots = start_kept q s l 18438 90 (omega arith) (inl (omega arith)) (omega arith);
     })

@@ -1,11 +1,11 @@
 // The layout's rules for the readings of a list, on any bytes.
 ghost use Rattle.std.specs.Prelude.{◌≡◌};
-ghost use Rattle.state.specs.Check.{slotRight, slotsRight, SlotReady, SlotsReady};
+ghost use Rattle.state.specs.Check.{slot_right, slots_right, SlotReady, SlotsReady};
 
 // The reading i: its top is below `cells`, its height is from 1 to 64, and down the parent links the heights fall by one to 1.
 fn slot_right(buffer: &[u8], cells: u16, states: u16, at: usize, i: u16) -> bool
     requires { SlotReady buffer.now cells at i }
-    ensures { result ≡ slotRight cells states buffer.now at i }
+    ensures { result ≡ slot_right cells states buffer.now at i }
 {
     let slot = crate::get_slot(buffer, at, i);
     if slot.top.0 >= cells {
@@ -24,7 +24,7 @@ fn slot_right(buffer: &[u8], cells: u16, states: u16, at: usize, i: u16) -> bool
 // `left` readings, from the reading i on.
 pub fn slots_right(buffer: &[u8], cells: u16, states: u16, at: usize, i: u16, left: u16) -> bool
     requires { SlotsReady buffer.now cells at i left }
-    ensures { result ≡ slotsRight cells states buffer.now at i left }
+    ensures { result ≡ slots_right cells states buffer.now at i left }
 {
     if left == 0 {
         return true;

@@ -1,9 +1,9 @@
 // The state buffer and the work area: where things stand in them, the check of any bytes, the readings of a state, start and load.
 ghost use Rattle.std.specs.Prelude.{◌≡◌, ◌++◌, ◌+◌, ◌*◌, ◌<◌, ◌≤◌, eqb, length};
-ghost use Rattle.meaning.specs.Readings.{heldBy};
-ghost use Rattle.state.specs.Layout.{stateLength, workLength, readingsAt, slotSize};
-ghost use Rattle.state.specs.Readings.{count_of, usedOf, slot_at, putSlot, readingsFrom, ListIn};
-ghost use Rattle.state.specs.Check.{slotsRight, validState, SlotsReady};
+ghost use Rattle.meaning.specs.Readings.{held_by};
+ghost use Rattle.state.specs.Layout.{state_len, work_len, readings_at, slot_size};
+ghost use Rattle.state.specs.Readings.{count_of, used_of, slot_at, put_slot, readings_from, ListIn};
+ghost use Rattle.state.specs.Check.{slots_right, valid_state, SlotsReady};
 ghost use Rattle.state.specs.Areas.{loaded, LoadReady, Started};
 
 use cells::Cell;
@@ -47,20 +47,20 @@ pub struct Slot {
 }
 
 pub fn state_length_right(state: &[u8]) -> bool
-    ensures { result ≡ eqb (length state.now) stateLength }
+    ensures { result ≡ eqb (length state.now) state_len }
 {
     state.len() == STATE_LENGTH
 }
 
 pub fn work_length_right(work: &[u8]) -> bool
-    ensures { result ≡ eqb (length work.now) workLength }
+    ensures { result ≡ eqb (length work.now) work_len }
 {
     work.len() == WORK_LENGTH
 }
 
 // The slot i of the list that begins at `at`.
 pub fn get_slot(buffer: &[u8], at: usize, i: u16) -> Slot
-    requires { at + slotSize * i + slotSize ≤ length buffer.now }
+    requires { at + slot_size * i + slot_size ≤ length buffer.now }
     ensures { result ≡ slot_at buffer.now at i }
 {
     let p = at + SLOT_SIZE * (i as usize);
@@ -72,8 +72,8 @@ pub fn get_slot(buffer: &[u8], at: usize, i: u16) -> Slot
 
 // Writes the slot i of the list that begins at `at`, and no other byte.
 pub fn put_slot(buffer: &mut [u8], at: usize, i: u16, x: Slot)
-    requires { at + slotSize * i + slotSize ≤ length buffer.old }
-    ensures { buffer.new ≡ putSlot buffer.old at i x }
+    requires { at + slot_size * i + slot_size ≤ length buffer.old }
+    ensures { buffer.new ≡ put_slot buffer.old at i x }
 {
     let p = at + SLOT_SIZE * (i as usize);
     numbers::put16(&mut *buffer, p, x.top.0);
@@ -82,7 +82,7 @@ pub fn put_slot(buffer: &mut [u8], at: usize, i: u16, x: Slot)
 
 // How many readings a state has; none: it is consumed.
 pub fn reading_count(state: &[u8]) -> u16
-    requires { length state.now ≡ stateLength }
+    requires { length state.now ≡ state_len }
     ensures { result ≡ count_of state.now }
 {
     numbers::get16(state, COUNT_AT)
@@ -90,8 +90,8 @@ pub fn reading_count(state: &[u8]) -> u16
 
 // How many cells of a state are in use: those with lower numbers.
 pub fn cells_in_use(state: &[u8]) -> u16
-    requires { length state.now ≡ stateLength }
-    ensures { result ≡ usedOf state.now }
+    requires { length state.now ≡ state_len }
+    ensures { result ≡ used_of state.now }
 {
     numbers::get16(state, USED_AT)
 }
@@ -99,15 +99,15 @@ pub fn cells_in_use(state: &[u8]) -> u16
 // Whether the readings of a list stand, over cells below `cells`, with states below `states`.
 pub fn list_right(buffer: &[u8], cells: u16, states: u16, at: usize, count: u16) -> bool
     requires { SlotsReady buffer.now cells at 0 count }
-    ensures { result ≡ slotsRight cells states buffer.now at 0 count }
+    ensures { result ≡ slots_right cells states buffer.now at 0 count }
 {
     check::slots_right(buffer, cells, states, at, 0, count)
 }
 
 // Whether the bytes, which may be any, are a state of a table of so many states.
 pub fn valid_state(state: &[u8], states: u16) -> bool
-    requires { length state.now ≡ stateLength }
-    ensures { result ≡ validState states state.now }
+    requires { length state.now ≡ state_len }
+    ensures { result ≡ valid_state states state.now }
 {
     let count = reading_count(state);
     if count > MAX_READINGS {
@@ -123,7 +123,7 @@ pub fn valid_state(state: &[u8], states: u16) -> bool
 // Whether one of `count` readings of a list, from the reading i on, holds the cell c.
 pub fn held_by(buffer: &[u8], at: usize, i: u16, count: u16, c: CellNo) -> bool
     requires { ListIn buffer.now at i count }
-    ensures { result ≡ heldBy (readingsFrom buffer.now at i count) c.0 }
+    ensures { result ≡ held_by (readings_from buffer.now at i count) c.0 }
 {
     if count == 0 {
         return false;
@@ -147,8 +147,8 @@ pub fn held_by_others(
     results: u16,
     c: CellNo,
 ) -> bool
-    requires { ListIn state.now readingsAt i waiting × ListIn work.now at j results }
-    ensures { result ≡ heldBy (readingsFrom state.now readingsAt i waiting ++ readingsFrom work.now at j results) c.0 }
+    requires { ListIn state.now readings_at i waiting × ListIn work.now at j results }
+    ensures { result ≡ held_by (readings_from state.now readings_at i waiting ++ readings_from work.now at j results) c.0 }
 {
     if held_by(state, READINGS_AT, i, waiting, c) {
         return true;
@@ -171,7 +171,7 @@ pub fn load(state: &[u8], work: &mut [u8])
 
 // One reading, one entry with this state: the state of a new line.
 pub fn start_state(state: &mut [u8], start: StateNo)
-    requires { length state.old ≡ stateLength }
+    requires { length state.old ≡ state_len }
     ensures { Started start state.old state.new }
 {
     cells::put_cell(

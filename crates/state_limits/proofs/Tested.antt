@@ -5,13 +5,13 @@ use mathlib.Core.List.{List}
 use Prim.Native.Nat.{ℕ, ◌≤◌}
 use native.Mathlib.Omega.{arith}
 use lib.ListN.{length}
-use Rattle.state.specs.Layout.{resultsAt, stateLength, workCells, workLength}
-use Rattle.state.specs.Check.{slotsRight}
-use Rattle.state.proofs.Valid.{slots-claim}
+use Rattle.state.specs.Layout.{results_at, state_len, work_cells, work_len}
+use Rattle.state.specs.Check.{slots_right}
+use Rattle.state.proofs.Valid.{slots_claim}
 use Rattle.commit.specs.Committing.{Results}
 
-pub tested : (m : ℕ) (w s : List ℕ) (count cells : ℕ) (b : Bool) → length w ≡ workLength → length s ≡ stateLength → cells ≤ workCells → count ≤ 16 →
-    b ≡ slotsRight cells m w resultsAt 0 count → b ≡ true → Results w s resultsAt count cells
+pub tested : (m : ℕ) (w s : List ℕ) (count cells : ℕ) (b : Bool) → length w ≡ work_len → length s ≡ state_len → cells ≤ work_cells → count ≤ 16 →
+    b ≡ slots_right cells m w results_at 0 count → b ≡ true → Results w s results_at count cells
 tested m w s count cells b l k p f e q =
     record {
       work = l;
@@ -19,5 +19,5 @@ tested m w s count cells b l k p f e q =
       pool = p;
       few = f;
       list = omega arith;
-      stands = (slots-claim cells m w resultsAt 0 count (sym e ∙ q)).0;
+      stands = (slots_claim cells m w results_at 0 count (sym e ∙ q)).0;
     }

@@ -1,9 +1,9 @@
 // The action records of a table file: their check, and the record of a state and a class.
 ghost use Rattle.std.specs.Prelude.{◌≡◌, ◌+◌, ◌*◌, ◌<◌, ◌≤◌, length, get_or};
-ghost use Rattle.meaning.specs.TableFile.{numbers, actionAt, actionSize, shiftTo, target, noRecord};
-ghost use Rattle.meaning.specs.TableRight.{shifts, actionRight, actionFormat, fieldRight};
+ghost use Rattle.meaning.specs.TableFile.{numbers, action_at, action_size, shift_to, target, no_record};
+ghost use Rattle.meaning.specs.TableRight.{shifts, action_right, action_format, field_right};
 ghost use Rattle.table.specs.Answers.{actionAnswer};
-ghost use Rattle.table.specs.Records.{headRight, below, recordTest, Inside, Sound, seek};
+ghost use Rattle.table.specs.Records.{head_right, below, record_test, Inside, Sound, seek};
 
 use super::Action;
 use super::reading::{both, byte_at, key_at, pair, wide8};
@@ -14,7 +14,7 @@ const NO_SHIFT: u16 = 65535;
 
 // The state, the class, the target and the count of rules.
 fn head_right(counts: Counts, state: u16, class: u16, to: u16, count: u8) -> bool
-    ensures { result ≡ headRight counts state class to count }
+    ensures { result ≡ head_right counts state class to count }
 {
     let known = both(
         state < counts.states,
@@ -46,14 +46,14 @@ fn all_below(table: &[u8], m: u16, n: u8, p: usize) -> bool
 
 fn action_size(table: &[u8], p: usize) -> usize
     requires { p ≤ 200000 }
-    ensures { (result ≡ actionSize table.now p) × ((7 ≤ result) × (result ≤ 517)) }
+    ensures { (result ≡ action_size table.now p) × ((7 ≤ result) × (result ≤ 517)) }
 {
     7 + 2 * wide8(byte_at(table, p + 6))
 }
 
 fn action_right(table: &[u8], counts: Counts, p: usize) -> bool
-    requires { p + actionSize table.now p ≤ length table.now }
-    ensures { result ≡ actionRight counts (actionAt table.now p) }
+    requires { p + action_size table.now p ≤ length table.now }
+    ensures { result ≡ action_right counts (action_at table.now p) }
 {
     let state = numbers::get16(table, p);
     let class = numbers::get16(table, p + 2);
@@ -66,7 +66,7 @@ fn action_right(table: &[u8], counts: Counts, p: usize) -> bool
 // Whether the record at p ends by end, is right, and has a key of at least low.
 fn action_test(table: &[u8], counts: Counts, end: usize, low: usize, p: usize) -> bool
     requires { Inside table.now p end }
-    ensures { result ≡ recordTest (actionFormat table.now counts) end low p }
+    ensures { result ≡ record_test (action_format table.now counts) end low p }
 {
     let next = p + action_size(table, p);
     if end < next {
@@ -79,7 +79,7 @@ fn action_test(table: &[u8], counts: Counts, end: usize, low: usize, p: usize) -
 // Whether the action records that fill the bytes from `from` to end are right.
 pub fn actions_right(table: &[u8], counts: Counts, from: usize, end: usize) -> bool
     requires { (end ≤ length table.now) × (end ≤ 65536) }
-    ensures { result ≡ fieldRight (actionFormat table.now counts) end 0 from }
+    ensures { result ≡ field_right (action_format table.now counts) end 0 from }
 {
     let mut low: usize = 0;
     let mut at = from;
@@ -95,7 +95,7 @@ pub fn actions_right(table: &[u8], counts: Counts, from: usize, end: usize) -> b
 }
 
 fn shifts(to: u16) -> bool
-    ensures { result ≡ shifts (shiftTo to) }
+    ensures { result ≡ shifts (shift_to to) }
 {
     if to == NO_SHIFT {
         return false;
@@ -104,7 +104,7 @@ fn shifts(to: u16) -> bool
 }
 
 fn target(to: u16) -> u16
-    ensures { result ≡ target (shiftTo to) }
+    ensures { result ≡ target (shift_to to) }
 {
     if to == NO_SHIFT {
         return 0;
@@ -124,8 +124,8 @@ fn number_at(table: &[u8], p: usize, n: u8, i: u8) -> u16
 }
 
 fn action_at(table: &[u8], p: usize) -> Action
-    requires { p + actionSize table.now p ≤ length table.now }
-    ensures { result ≡ actionAnswer (actionAt table.now p) }
+    requires { p + action_size table.now p ≤ length table.now }
+    ensures { result ≡ actionAnswer (action_at table.now p) }
 {
     let to = numbers::get16(table, p + 4);
     let count = table[p + 6];
@@ -142,7 +142,7 @@ fn action_at(table: &[u8], p: usize) -> Action
 }
 
 fn no_action() -> Action
-    ensures { result ≡ actionAnswer noRecord }
+    ensures { result ≡ actionAnswer no_record }
 {
     Action {
         shifts: false,
@@ -154,8 +154,8 @@ fn no_action() -> Action
 
 // The record of a state and a class; records ascend, so a greater key ends the search.
 pub fn find_action(table: &[u8], view: View, state: u16, class: u16) -> Action
-    requires { Sound (actionFormat table.now view.counts) table.now view.actions.at view.actions.end }
-    ensures { result ≡ actionAnswer (seek (actionFormat table.now view.counts) (λ a. a) noRecord state class view.actions.end view.actions.at) }
+    requires { Sound (action_format table.now view.counts) table.now view.actions.at view.actions.end }
+    ensures { result ≡ actionAnswer (seek (action_format table.now view.counts) (λ a. a) no_record state class view.actions.end view.actions.at) }
 {
     let wanted = pair(state, class);
     let mut at = view.actions.at;

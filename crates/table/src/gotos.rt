@@ -1,10 +1,10 @@
 // The gotos of a table file: their check, and the goto of a state and a nonterminal.
 ghost use Rattle.std.specs.Prelude.{◌≡◌, ◌+◌, ◌≤◌, length};
 ghost use Rattle.meaning.specs.Basics.{nothing, just};
-ghost use Rattle.meaning.specs.TableFile.{gotoAt};
-ghost use Rattle.meaning.specs.TableRight.{gotoRight, gotoFormat, fieldRight};
+ghost use Rattle.meaning.specs.TableFile.{goto_at};
+ghost use Rattle.meaning.specs.TableRight.{goto_right, goto_format, field_right};
 ghost use Rattle.table.specs.Answers.{gotoAnswer};
-ghost use Rattle.table.specs.Records.{recordTest, Inside, Sound, seek};
+ghost use Rattle.table.specs.Records.{record_test, Inside, Sound, seek};
 
 use super::Goto;
 use super::reading::{both, key_at, pair};
@@ -12,7 +12,7 @@ use meaning::{Counts, StateNo, View};
 
 fn goto_right(table: &[u8], counts: Counts, p: usize) -> bool
     requires { p + 6 ≤ length table.now }
-    ensures { result ≡ gotoRight counts (gotoAt table.now p) }
+    ensures { result ≡ goto_right counts (goto_at table.now p) }
 {
     let state = numbers::get16(table, p);
     let nonterminal = numbers::get16(table, p + 2);
@@ -26,7 +26,7 @@ fn goto_right(table: &[u8], counts: Counts, p: usize) -> bool
 // Whether the record at p ends by end, is right, and has a key of at least low.
 fn goto_test(table: &[u8], counts: Counts, end: usize, low: usize, p: usize) -> bool
     requires { Inside table.now p end }
-    ensures { result ≡ recordTest (gotoFormat table.now counts) end low p }
+    ensures { result ≡ record_test (goto_format table.now counts) end low p }
 {
     if end < p + 6 {
         return false;
@@ -38,7 +38,7 @@ fn goto_test(table: &[u8], counts: Counts, end: usize, low: usize, p: usize) -> 
 // Whether the gotos that fill the bytes from `from` to end are right.
 pub fn gotos_right(table: &[u8], counts: Counts, from: usize, end: usize) -> bool
     requires { (end ≤ length table.now) × (end ≤ 65536) }
-    ensures { result ≡ fieldRight (gotoFormat table.now counts) end 0 from }
+    ensures { result ≡ field_right (goto_format table.now counts) end 0 from }
 {
     let mut low: usize = 0;
     let mut at = from;
@@ -55,8 +55,8 @@ pub fn gotos_right(table: &[u8], counts: Counts, from: usize, end: usize) -> boo
 
 // Where a state goes on at a nonterminal; records ascend, so a greater key ends the search.
 pub fn find_goto(table: &[u8], view: View, state: u16, nonterminal: u16) -> Goto
-    requires { Sound (gotoFormat table.now view.counts) table.now view.gotos.at view.gotos.end }
-    ensures { result ≡ gotoAnswer (seek (gotoFormat table.now view.counts) (λ g. just g.target) nothing state nonterminal view.gotos.end view.gotos.at) }
+    requires { Sound (goto_format table.now view.counts) table.now view.gotos.at view.gotos.end }
+    ensures { result ≡ gotoAnswer (seek (goto_format table.now view.counts) (λ g. just g.target) nothing state nonterminal view.gotos.end view.gotos.at) }
 {
     let wanted = pair(state, nonterminal);
     let mut at = view.gotos.at;

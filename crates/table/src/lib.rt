@@ -1,8 +1,8 @@
 // The table file: the check of any bytes, and lookups in a checked table.
 ghost use Rattle.std.specs.Prelude.{◌≡◌};
-ghost use Rattle.meaning.specs.TableFile.{table_of, ruleOf, actionOf, gotoOf};
-ghost use Rattle.meaning.specs.TableRight.{contentRight};
-ghost use Rattle.table.specs.Answers.{checkOf, Belongs, actionAnswer, gotoAnswer};
+ghost use Rattle.meaning.specs.TableFile.{table_of, rule_of, action_of, goto_of};
+ghost use Rattle.meaning.specs.TableRight.{content_right};
+ghost use Rattle.table.specs.Answers.{check_of, Belongs, actionAnswer, gotoAnswer};
 ghost use Rattle.table.specs.Records.{Framed};
 
 use meaning::{Rule, START_CLASS, StateNo, View};
@@ -37,7 +37,7 @@ pub enum Goto {
 
 fn content_right(table: &[u8], view: View) -> bool
     requires { Framed table.now view }
-    ensures { result ≡ contentRight table.now view }
+    ensures { result ≡ content_right table.now view }
 {
     let rules = rules::rules_right(table, view.counts, view.counts.rules, view.rules.at);
     let actions = actions::actions_right(table, view.counts, view.actions.at, view.actions.end);
@@ -47,7 +47,7 @@ fn content_right(table: &[u8], view: View) -> bool
 
 // Whether the bytes, which may be any, are a right table file, and where things stand in it.
 pub fn check_table(table: &[u8]) -> Checked
-    ensures { result ≡ checkOf table.now }
+    ensures { result ≡ check_of table.now }
 {
     let view = frame::view_of(table);
     if frame::frame_right(table, view) {
@@ -66,7 +66,7 @@ pub fn check_table(table: &[u8]) -> Checked
 // The rule of a number; all zero if there is none.
 pub fn rule_of(table: &[u8], view: View, number: u16) -> Rule
     requires { Belongs table.now view }
-    ensures { result ≡ ruleOf (table_of table.now) number }
+    ensures { result ≡ rule_of (table_of table.now) number }
 {
     rules::find_rule(table, view.counts.rules, view.rules.at, number)
 }
@@ -74,7 +74,7 @@ pub fn rule_of(table: &[u8], view: View, number: u16) -> Rule
 // What a state does at a class; neither shift nor rules if there is no record.
 pub fn action_of(table: &[u8], view: View, state: StateNo, class: u16) -> Action
     requires { Belongs table.now view }
-    ensures { result ≡ actionAnswer (actionOf (table_of table.now) state.0 class) }
+    ensures { result ≡ actionAnswer (action_of (table_of table.now) state.0 class) }
 {
     actions::find_action(table, view, state.0, class)
 }
@@ -82,7 +82,7 @@ pub fn action_of(table: &[u8], view: View, state: StateNo, class: u16) -> Action
 // Where a state goes on after a reduction to a nonterminal.
 pub fn goto_of(table: &[u8], view: View, state: StateNo, nonterminal: u16) -> Goto
     requires { Belongs table.now view }
-    ensures { result ≡ gotoAnswer (gotoOf (table_of table.now) state.0 nonterminal) }
+    ensures { result ≡ gotoAnswer (goto_of (table_of table.now) state.0 nonterminal) }
 {
     gotos::find_goto(table, view, state.0, nonterminal)
 }

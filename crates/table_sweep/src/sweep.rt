@@ -1,12 +1,12 @@
 // Every proper prefix of T1, and T1 with each byte changed to each other value: how many of them are right, and which.
 ghost use Rattle.std.specs.Prelude.{◌≡◌, ◌<◌, ◌≤◌};
-ghost use Rattle.meaning.specs.TableRight.{tableOk};
+ghost use Rattle.meaning.specs.TableRight.{table_ok};
 
 use super::print;
 use table::Checked;
 
 fn is_right(bytes: &[u8]) -> bool
-    ensures { result ≡ tableOk bytes.now }
+    ensures { result ≡ table_ok bytes.now }
 {
     match table::check_table(bytes) {
         Checked::Right(_) => true,

@@ -5,12 +5,12 @@ use Prim.Native.Nat.{◌+◌, ◌*◌, ◌-◌, ◌≤◌}
 use native.Mathlib.Omega.{arith}
 use mathlib.Core.Path.{◌≡◌, ap, sym, ◌∙◌}
 use lib.ListN.{length}
-use Rattle.meaning.specs.Applying.{nothingApplied}
+use Rattle.meaning.specs.Applying.{nothing_applied}
 use Rattle.meaning.specs.TableFile.{table_of}
-use Rattle.chains.proofs.Actions.{four-rules}
+use Rattle.chains.proofs.Actions.{four_rules}
 use Rattle.applying.specs.Following.{Place, place}
-use Rattle.applying.proofs.States.{cell_room, fit-rules, told-state}
-use Rattle.applying.proofs.Rules.{end-ready, told-end, node, some-marks, fit-rest, told-rest, dead, told-dead, step-ready, refusal, told-refusal, reduction, fit-below, told_below}
+use Rattle.applying.proofs.States.{cell_room, fit_rules, told_state}
+use Rattle.applying.proofs.Rules.{end_ready, told_end, node, some_marks, fit_rest, told_rest, dead, told_dead, step_ready, refusal, told_refusal, reduction, fit_below, told_below}
 use mathlib.Core.Path.{subst}
 use lib.ListN.{get_or}
 use Rattle.actions.specs.Steps.{StepIs}
@@ -80,12 +80,12 @@ full t s =
 apply-rules-end-chain-requires : (t : ℕ) → apply-rules-lts.Need-end-chain-requires (apply-rules-claims t) (apply-rules-at t) apply-rules.Post
 apply-rules-end-chain-requires t c κs =
     let s = c.before.before.before.before.before.before in
-    end-ready (here t s) s.args.rest.action s.args.rest.next (omega (arith, c.before.before.wide.ensures, c.before.if1.true)) s.requires.1.way s.requires.1.fit
+    end_ready (here t s) s.args.rest.action s.args.rest.next (omega (arith, c.before.before.wide.ensures, c.before.if1.true)) s.requires.1.way s.requires.1.fit
 
 apply-rules-returns : (t : ℕ) → apply-rules-lts.Need-returns (apply-rules-claims t) (apply-rules-at t) apply-rules.Post
 apply-rules-returns t c =
     let s = c.before.before.before.before.before.before.before.before.before in
-    told-end (here t s) s.args.rest.action s.args.rest.next (omega (arith, c.before.before.before.before.before.wide.ensures, c.before.before.before.before.if1.true)) _ _ c.before.before.end-chain.ensures
+    told_end (here t s) s.args.rest.action s.args.rest.next (omega (arith, c.before.before.before.before.before.wide.ensures, c.before.before.before.before.if1.true)) _ _ c.before.before.end-chain.ensures
 
 apply-rules-add-if2 : (t : ℕ) → apply-rules-lts.Need-overflow-add-if2 (apply-rules-claims t) (apply-rules-at t) apply-rules.Post
 apply-rules-add-if2 t c =
@@ -102,7 +102,7 @@ apply-rules-marks-of-one-requires t c κs =
 apply-rules-add-t27 : (t : ℕ) → apply-rules-lts.Need-overflow-add-t27 (apply-rules-claims t) (apply-rules-at t) apply-rules.Post
 apply-rules-add-t27 t c =
     let s = c.before.before.before.before.before.before.before in
-    let b = (node (here t s) s.args.rest.action s.args.rest.next (going t c.before.before) (full t s) s.requires.1.way s.requires.1.fit).rest-few in
+    let b = (node (here t s) s.args.rest.action s.args.rest.next (going t c.before.before) (full t s) s.requires.1.way s.requires.1.fit).rest_few in
     let e = c.marks-of-one.ensures in
     omega arith
 
@@ -114,22 +114,22 @@ apply-rules-chains-below-requires t c κs =
 apply-rules-apply-rules-requires : (t : ℕ) → apply-rules-lts.Need-apply-rules-requires (apply-rules-claims t) (apply-rules-at t) apply-rules.Post
 apply-rules-apply-rules-requires t c κs =
     let s = c.before.before.before.before.before.before.before.before.before.before.before in
-    let m = some-marks (here t s) s.args.rest.action s.args.rest.next (going t c.before.before.before.before.before.before) (full t s) s.requires.1.way s.requires.1.fit in
+    let m = some_marks (here t s) s.args.rest.action s.args.rest.next (going t c.before.before.before.before.before.before) (full t s) s.requires.1.way s.requires.1.fit in
     let b = (node (here t s) s.args.rest.action s.args.rest.next (going t c.before.before.before.before.before.before) (full t s) s.requires.1.way s.requires.1.fit).few in
     let e = c.before.before.before.before.marks-of-one.ensures in
     let q = s.requires.0 in
-    (omega arith, record { belongs = s.requires.1.belongs; four = s.requires.1.four; way = _; fit = fit-rest (here t s) s.args.rest.action s.args.rest.next (going t c.before.before.before.before.before.before) (full t s) s.requires.1.way s.requires.1.fit (nothingApplied s.args.counts.cells) (dead (here t s) s.args.rest.action s.args.rest.next (going t c.before.before.before.before.before.before) (full t s) s.requires.1.way s.requires.1.fit (sym c.before.before.chains-below.ensures ∙ c.before.if2.true)) s.args.work.now s.args.counts (told-dead (here t s) s.args.rest.action s.args.rest.next (going t c.before.before.before.before.before.before) (full t s) s.requires.1.way s.requires.1.fit) (s.args.rest.at + c.before.before.before.before.marks-of-one.result) (ap (λ (n : ℕ). s.args.rest.at + n) c.before.before.before.before.marks-of-one.ensures) })
+    (omega arith, record { belongs = s.requires.1.belongs; four = s.requires.1.four; way = _; fit = fit_rest (here t s) s.args.rest.action s.args.rest.next (going t c.before.before.before.before.before.before) (full t s) s.requires.1.way s.requires.1.fit (nothing_applied s.args.counts.cells) (dead (here t s) s.args.rest.action s.args.rest.next (going t c.before.before.before.before.before.before) (full t s) s.requires.1.way s.requires.1.fit (sym c.before.before.chains_below.ensures ∙ c.before.if2.true)) s.args.work.now s.args.counts (told_dead (here t s) s.args.rest.action s.args.rest.next (going t c.before.before.before.before.before.before) (full t s) s.requires.1.way s.requires.1.fit) (s.args.rest.at + c.before.before.before.before.marks-of-one.result) (ap (λ (n : ℕ). s.args.rest.at + n) c.before.before.before.before.marks-of-one.ensures) })
 
 apply-rules-returns-2 : (t : ℕ) → apply-rules-lts.Need-returns-2 (apply-rules-claims t) (apply-rules-at t) apply-rules.Post
 apply-rules-returns-2 t c =
     λ y f.
     let s = c.before.before.before.before.before.before.before.before.before.before.before.before.before.before in
-    told-rest (here t s) s.args.rest.action s.args.rest.next (going t c.before.before.before.before.before.before.before.before.before) (full t s) y f (nothingApplied s.args.counts.cells) (dead (here t s) s.args.rest.action s.args.rest.next (going t c.before.before.before.before.before.before.before.before.before) (full t s) y f (sym c.before.before.before.before.before.chains-below.ensures ∙ c.before.before.before.before.if2.true)) s.args.work.now s.args.counts (told-dead (here t s) s.args.rest.action s.args.rest.next (going t c.before.before.before.before.before.before.before.before.before) (full t s) y f) (s.args.rest.at + c.before.before.before.before.before.before.before.marks-of-one.result) (ap (λ (n : ℕ). s.args.rest.at + n) c.before.before.before.before.before.before.before.marks-of-one.ensures) _ _ c.before.before.apply-rules.ensures
+    told_rest (here t s) s.args.rest.action s.args.rest.next (going t c.before.before.before.before.before.before.before.before.before) (full t s) y f (nothing_applied s.args.counts.cells) (dead (here t s) s.args.rest.action s.args.rest.next (going t c.before.before.before.before.before.before.before.before.before) (full t s) y f (sym c.before.before.before.before.before.chains_below.ensures ∙ c.before.before.before.before.if2.true)) s.args.work.now s.args.counts (told_dead (here t s) s.args.rest.action s.args.rest.next (going t c.before.before.before.before.before.before.before.before.before) (full t s) y f) (s.args.rest.at + c.before.before.before.before.before.before.before.marks-of-one.result) (ap (λ (n : ℕ). s.args.rest.at + n) c.before.before.before.before.before.before.before.marks-of-one.ensures) _ _ c.before.before.apply-rules.ensures
 
 apply-rules-reduce-one-requires : (t : ℕ) → apply-rules-lts.Need-reduce-one-requires (apply-rules-claims t) (apply-rules-at t) apply-rules.Post
 apply-rules-reduce-one-requires t c κs =
     let s = c.before.before.before.before.before.before.before.before.before.before.before.before in
-    step-ready (here t s) s.args.rest.action s.args.rest.next (going t c.before.before.before.before.before.before.before) (full t s) s.requires.1.way s.requires.1.fit (λ z. c.before.before.if2.false (c.before.before.before.chains-below.ensures ∙ z)) s.requires.1.belongs
+    step_ready (here t s) s.args.rest.action s.args.rest.next (going t c.before.before.before.before.before.before.before) (full t s) s.requires.1.way s.requires.1.fit (λ z. c.before.before.if2.false (c.before.before.before.chains_below.ensures ∙ z)) s.requires.1.belongs
 
 apply-rules-add-apply-state : (t : ℕ) → apply-rules-lts.Need-overflow-add-apply-state (apply-rules-claims t) (apply-rules-at t) apply-rules.Post
 apply-rules-add-apply-state t c =
@@ -143,41 +143,41 @@ apply-rules-apply-state-requires t c κs =
     let v = c.before.before.step in
     let b = (node (here t s) s.args.rest.action s.args.rest.next (going t c.before.before.before.before.before.before.before.before.before.before.before.before.before.before) (full t s) s.requires.1.way s.requires.1.fit).few in
     let q = s.requires.0 in
-    (omega arith, record { belongs = s.requires.1.belongs; way = _; fit = fit-below (here t s) s.args.rest.action s.args.rest.next (going t c.before.before.before.before.before.before.before.before.before.before.before.before.before.before) (full t s) s.requires.1.way s.requires.1.fit (λ z. c.before.before.before.before.before.before.before.before.before.if2.false (c.before.before.before.before.before.before.before.before.before.before.chains-below.ensures ∙ z)) c.before.before.before.before.before.before.reduce-one.new.1.1.0 v.given.0.0 v.given.0.1.0 (subst (λ (z : Step). StepIs (table_of s.args.table.now) s.args.work.now s.args.reading s.args.counts (get_or s.args.rest.action.rules s.args.rest.next 0) c.before.before.before.before.before.before.reduce-one.new.1.1.0 z) v.given.1 c.before.before.before.before.before.before.reduce-one.ensures) })
+    (omega arith, record { belongs = s.requires.1.belongs; way = _; fit = fit_below (here t s) s.args.rest.action s.args.rest.next (going t c.before.before.before.before.before.before.before.before.before.before.before.before.before.before) (full t s) s.requires.1.way s.requires.1.fit (λ z. c.before.before.before.before.before.before.before.before.before.if2.false (c.before.before.before.before.before.before.before.before.before.before.chains_below.ensures ∙ z)) c.before.before.before.before.before.before.reduce-one.new.1.1.0 v.given.0.0 v.given.0.1.0 (subst (λ (z : Step). StepIs (table_of s.args.table.now) s.args.work.now s.args.reading s.args.counts (get_or s.args.rest.action.rules s.args.rest.next 0) c.before.before.before.before.before.before.reduce-one.new.1.1.0 z) v.given.1 c.before.before.before.before.before.before.reduce-one.ensures) })
 
 apply-rules-apply-rules-requires-2 : (t : ℕ) → apply-rules-lts.Need-apply-rules-requires-2 (apply-rules-claims t) (apply-rules-at t) apply-rules.Post
 apply-rules-apply-rules-requires-2 t c κs =
     let s = c.before.before.before.before.before.before.before.before.before.before.before.before.before.before.before.before.before.before.before.before.before.before.before in
     let v = c.before.before.before.before.before.before.step in
-    let m = some-marks (here t s) s.args.rest.action s.args.rest.next (going t c.before.before.before.before.before.before.before.before.before.before.before.before.before.before.before.before.before.before) (full t s) s.requires.1.way s.requires.1.fit in
+    let m = some_marks (here t s) s.args.rest.action s.args.rest.next (going t c.before.before.before.before.before.before.before.before.before.before.before.before.before.before.before.before.before.before) (full t s) s.requires.1.way s.requires.1.fit in
     let b = (node (here t s) s.args.rest.action s.args.rest.next (going t c.before.before.before.before.before.before.before.before.before.before.before.before.before.before.before.before.before.before) (full t s) s.requires.1.way s.requires.1.fit).few in
     let e = c.before.before.before.before.before.before.before.before.before.before.before.before.before.before.before.before.marks-of-one.ensures in
     let q = s.requires.0 in
-    (omega arith, record { belongs = s.requires.1.belongs; four = s.requires.1.four; way = _; fit = fit-rest (here t s) s.args.rest.action s.args.rest.next (going t c.before.before.before.before.before.before.before.before.before.before.before.before.before.before.before.before.before.before) (full t s) s.requires.1.way s.requires.1.fit _ (reduction (here t s) s.args.rest.action s.args.rest.next (going t c.before.before.before.before.before.before.before.before.before.before.before.before.before.before.before.before.before.before) (full t s) s.requires.1.way s.requires.1.fit (λ z. c.before.before.before.before.before.before.before.before.before.before.before.before.before.if2.false (c.before.before.before.before.before.before.before.before.before.before.before.before.before.before.chains-below.ensures ∙ z)) c.before.before.before.before.before.before.before.before.before.before.reduce-one.new.1.1.0 v.given.0.0 v.given.0.1.0 (subst (λ (z : Step). StepIs (table_of s.args.table.now) s.args.work.now s.args.reading s.args.counts (get_or s.args.rest.action.rules s.args.rest.next 0) c.before.before.before.before.before.before.before.before.before.before.reduce-one.new.1.1.0 z) v.given.1 c.before.before.before.before.before.before.before.before.before.before.reduce-one.ensures)) c.before.before.before.apply-state.new.1.0 c.before.before.before.apply-state.result (told_below (here t s) s.args.rest.action s.args.rest.next (going t c.before.before.before.before.before.before.before.before.before.before.before.before.before.before.before.before.before.before) (full t s) s.requires.1.way s.requires.1.fit (λ z. c.before.before.before.before.before.before.before.before.before.before.before.before.before.if2.false (c.before.before.before.before.before.before.before.before.before.before.before.before.before.before.chains-below.ensures ∙ z)) c.before.before.before.before.before.before.before.before.before.before.reduce-one.new.1.1.0 v.given.0.0 v.given.0.1.0 (subst (λ (z : Step). StepIs (table_of s.args.table.now) s.args.work.now s.args.reading s.args.counts (get_or s.args.rest.action.rules s.args.rest.next 0) c.before.before.before.before.before.before.before.before.before.before.reduce-one.new.1.1.0 z) v.given.1 c.before.before.before.before.before.before.before.before.before.before.reduce-one.ensures) c.before.before.before.apply-state.new.1.0 c.before.before.before.apply-state.result c.before.before.before.apply-state.ensures) (s.args.rest.at + c.before.before.before.before.before.before.before.before.before.before.before.before.before.before.before.before.marks-of-one.result) (ap (λ (n : ℕ). s.args.rest.at + n) c.before.before.before.before.before.before.before.before.before.before.before.before.before.before.before.before.marks-of-one.ensures) })
+    (omega arith, record { belongs = s.requires.1.belongs; four = s.requires.1.four; way = _; fit = fit_rest (here t s) s.args.rest.action s.args.rest.next (going t c.before.before.before.before.before.before.before.before.before.before.before.before.before.before.before.before.before.before) (full t s) s.requires.1.way s.requires.1.fit _ (reduction (here t s) s.args.rest.action s.args.rest.next (going t c.before.before.before.before.before.before.before.before.before.before.before.before.before.before.before.before.before.before) (full t s) s.requires.1.way s.requires.1.fit (λ z. c.before.before.before.before.before.before.before.before.before.before.before.before.before.if2.false (c.before.before.before.before.before.before.before.before.before.before.before.before.before.before.chains_below.ensures ∙ z)) c.before.before.before.before.before.before.before.before.before.before.reduce-one.new.1.1.0 v.given.0.0 v.given.0.1.0 (subst (λ (z : Step). StepIs (table_of s.args.table.now) s.args.work.now s.args.reading s.args.counts (get_or s.args.rest.action.rules s.args.rest.next 0) c.before.before.before.before.before.before.before.before.before.before.reduce-one.new.1.1.0 z) v.given.1 c.before.before.before.before.before.before.before.before.before.before.reduce-one.ensures)) c.before.before.before.apply-state.new.1.0 c.before.before.before.apply-state.result (told_below (here t s) s.args.rest.action s.args.rest.next (going t c.before.before.before.before.before.before.before.before.before.before.before.before.before.before.before.before.before.before) (full t s) s.requires.1.way s.requires.1.fit (λ z. c.before.before.before.before.before.before.before.before.before.before.before.before.before.if2.false (c.before.before.before.before.before.before.before.before.before.before.before.before.before.before.chains_below.ensures ∙ z)) c.before.before.before.before.before.before.before.before.before.before.reduce-one.new.1.1.0 v.given.0.0 v.given.0.1.0 (subst (λ (z : Step). StepIs (table_of s.args.table.now) s.args.work.now s.args.reading s.args.counts (get_or s.args.rest.action.rules s.args.rest.next 0) c.before.before.before.before.before.before.before.before.before.before.reduce-one.new.1.1.0 z) v.given.1 c.before.before.before.before.before.before.before.before.before.before.reduce-one.ensures) c.before.before.before.apply-state.new.1.0 c.before.before.before.apply-state.result c.before.before.before.apply-state.ensures) (s.args.rest.at + c.before.before.before.before.before.before.before.before.before.before.before.before.before.before.before.before.marks-of-one.result) (ap (λ (n : ℕ). s.args.rest.at + n) c.before.before.before.before.before.before.before.before.before.before.before.before.before.before.before.before.marks-of-one.ensures) })
 
 apply-rules-apply-rules-requires-3 : (t : ℕ) → apply-rules-lts.Need-apply-rules-requires-3 (apply-rules-claims t) (apply-rules-at t) apply-rules.Post
 apply-rules-apply-rules-requires-3 t c κs =
     let s = c.before.before.before.before.before.before.before.before.before.before.before.before.before.before.before.before.before.before.before in
     let v = c.before.before.step2 in
-    let m = some-marks (here t s) s.args.rest.action s.args.rest.next (going t c.before.before.before.before.before.before.before.before.before.before.before.before.before.before) (full t s) s.requires.1.way s.requires.1.fit in
+    let m = some_marks (here t s) s.args.rest.action s.args.rest.next (going t c.before.before.before.before.before.before.before.before.before.before.before.before.before.before) (full t s) s.requires.1.way s.requires.1.fit in
     let b = (node (here t s) s.args.rest.action s.args.rest.next (going t c.before.before.before.before.before.before.before.before.before.before.before.before.before.before) (full t s) s.requires.1.way s.requires.1.fit).few in
     let e = c.before.before.before.before.before.before.before.before.before.before.before.before.marks-of-one.ensures in
     let q = s.requires.0 in
-    (omega arith, record { belongs = s.requires.1.belongs; four = s.requires.1.four; way = _; fit = fit-rest (here t s) s.args.rest.action s.args.rest.next (going t c.before.before.before.before.before.before.before.before.before.before.before.before.before.before) (full t s) s.requires.1.way s.requires.1.fit _ (refusal (here t s) s.args.rest.action s.args.rest.next (going t c.before.before.before.before.before.before.before.before.before.before.before.before.before.before) (full t s) s.requires.1.way s.requires.1.fit (λ z. c.before.before.before.before.before.before.before.before.before.if2.false (c.before.before.before.before.before.before.before.before.before.before.chains-below.ensures ∙ z)) c.before.before.before.before.before.before.reduce-one.new.1.1.0 v.given.0.0 (subst (λ (z : Step). StepIs (table_of s.args.table.now) s.args.work.now s.args.reading s.args.counts (get_or s.args.rest.action.rules s.args.rest.next 0) c.before.before.before.before.before.before.reduce-one.new.1.1.0 z) v.given.1 c.before.before.before.before.before.before.reduce-one.ensures)) c.before.before.before.before.before.before.reduce-one.new.1.1.0 v.given.0.0 (told-refusal (here t s) s.args.rest.action s.args.rest.next (going t c.before.before.before.before.before.before.before.before.before.before.before.before.before.before) (full t s) s.requires.1.way s.requires.1.fit (λ z. c.before.before.before.before.before.before.before.before.before.if2.false (c.before.before.before.before.before.before.before.before.before.before.chains-below.ensures ∙ z)) c.before.before.before.before.before.before.reduce-one.new.1.1.0 v.given.0.0 (subst (λ (z : Step). StepIs (table_of s.args.table.now) s.args.work.now s.args.reading s.args.counts (get_or s.args.rest.action.rules s.args.rest.next 0) c.before.before.before.before.before.before.reduce-one.new.1.1.0 z) v.given.1 c.before.before.before.before.before.before.reduce-one.ensures)) (s.args.rest.at + c.before.before.before.before.before.before.before.before.before.before.before.before.marks-of-one.result) (ap (λ (n : ℕ). s.args.rest.at + n) c.before.before.before.before.before.before.before.before.before.before.before.before.marks-of-one.ensures) })
+    (omega arith, record { belongs = s.requires.1.belongs; four = s.requires.1.four; way = _; fit = fit_rest (here t s) s.args.rest.action s.args.rest.next (going t c.before.before.before.before.before.before.before.before.before.before.before.before.before.before) (full t s) s.requires.1.way s.requires.1.fit _ (refusal (here t s) s.args.rest.action s.args.rest.next (going t c.before.before.before.before.before.before.before.before.before.before.before.before.before.before) (full t s) s.requires.1.way s.requires.1.fit (λ z. c.before.before.before.before.before.before.before.before.before.if2.false (c.before.before.before.before.before.before.before.before.before.before.chains_below.ensures ∙ z)) c.before.before.before.before.before.before.reduce-one.new.1.1.0 v.given.0.0 (subst (λ (z : Step). StepIs (table_of s.args.table.now) s.args.work.now s.args.reading s.args.counts (get_or s.args.rest.action.rules s.args.rest.next 0) c.before.before.before.before.before.before.reduce-one.new.1.1.0 z) v.given.1 c.before.before.before.before.before.before.reduce-one.ensures)) c.before.before.before.before.before.before.reduce-one.new.1.1.0 v.given.0.0 (told_refusal (here t s) s.args.rest.action s.args.rest.next (going t c.before.before.before.before.before.before.before.before.before.before.before.before.before.before) (full t s) s.requires.1.way s.requires.1.fit (λ z. c.before.before.before.before.before.before.before.before.before.if2.false (c.before.before.before.before.before.before.before.before.before.before.chains_below.ensures ∙ z)) c.before.before.before.before.before.before.reduce-one.new.1.1.0 v.given.0.0 (subst (λ (z : Step). StepIs (table_of s.args.table.now) s.args.work.now s.args.reading s.args.counts (get_or s.args.rest.action.rules s.args.rest.next 0) c.before.before.before.before.before.before.reduce-one.new.1.1.0 z) v.given.1 c.before.before.before.before.before.before.reduce-one.ensures)) (s.args.rest.at + c.before.before.before.before.before.before.before.before.before.before.before.before.marks-of-one.result) (ap (λ (n : ℕ). s.args.rest.at + n) c.before.before.before.before.before.before.before.before.before.before.before.before.marks-of-one.ensures) })
 
 apply-rules-returns-3 : (t : ℕ) → apply-rules-lts.Need-returns-3 (apply-rules-claims t) (apply-rules-at t) apply-rules.Post
 apply-rules-returns-3 t c =
     λ y f.
     let s = c.before.before.before.before.before.before.before.before.before.before.before.before.before.before.before.before.before.before.before.before.before.before.before.before.before.before in
     let v = c.before.before.before.before.before.before.before.before.before.step in
-    told-rest (here t s) s.args.rest.action s.args.rest.next (going t c.before.before.before.before.before.before.before.before.before.before.before.before.before.before.before.before.before.before.before.before.before) (full t s) y f _ (reduction (here t s) s.args.rest.action s.args.rest.next (going t c.before.before.before.before.before.before.before.before.before.before.before.before.before.before.before.before.before.before.before.before.before) (full t s) y f (λ z. c.before.before.before.before.before.before.before.before.before.before.before.before.before.before.before.before.if2.false (c.before.before.before.before.before.before.before.before.before.before.before.before.before.before.before.before.before.chains-below.ensures ∙ z)) c.before.before.before.before.before.before.before.before.before.before.before.before.before.reduce-one.new.1.1.0 v.given.0.0 v.given.0.1.0 (subst (λ (z : Step). StepIs (table_of s.args.table.now) s.args.work.now s.args.reading s.args.counts (get_or s.args.rest.action.rules s.args.rest.next 0) c.before.before.before.before.before.before.before.before.before.before.before.before.before.reduce-one.new.1.1.0 z) v.given.1 c.before.before.before.before.before.before.before.before.before.before.before.before.before.reduce-one.ensures)) c.before.before.before.before.before.before.apply-state.new.1.0 c.before.before.before.before.before.before.apply-state.result (told_below (here t s) s.args.rest.action s.args.rest.next (going t c.before.before.before.before.before.before.before.before.before.before.before.before.before.before.before.before.before.before.before.before.before) (full t s) y f (λ z. c.before.before.before.before.before.before.before.before.before.before.before.before.before.before.before.before.if2.false (c.before.before.before.before.before.before.before.before.before.before.before.before.before.before.before.before.before.chains-below.ensures ∙ z)) c.before.before.before.before.before.before.before.before.before.before.before.before.before.reduce-one.new.1.1.0 v.given.0.0 v.given.0.1.0 (subst (λ (z : Step). StepIs (table_of s.args.table.now) s.args.work.now s.args.reading s.args.counts (get_or s.args.rest.action.rules s.args.rest.next 0) c.before.before.before.before.before.before.before.before.before.before.before.before.before.reduce-one.new.1.1.0 z) v.given.1 c.before.before.before.before.before.before.before.before.before.before.before.before.before.reduce-one.ensures) c.before.before.before.before.before.before.apply-state.new.1.0 c.before.before.before.before.before.before.apply-state.result c.before.before.before.before.before.before.apply-state.ensures) (s.args.rest.at + c.before.before.before.before.before.before.before.before.before.before.before.before.before.before.before.before.before.before.before.marks-of-one.result) (ap (λ (n : ℕ). s.args.rest.at + n) c.before.before.before.before.before.before.before.before.before.before.before.before.before.before.before.before.before.before.before.marks-of-one.ensures) _ _ c.before.before.apply-rules2.ensures
+    told_rest (here t s) s.args.rest.action s.args.rest.next (going t c.before.before.before.before.before.before.before.before.before.before.before.before.before.before.before.before.before.before.before.before.before) (full t s) y f _ (reduction (here t s) s.args.rest.action s.args.rest.next (going t c.before.before.before.before.before.before.before.before.before.before.before.before.before.before.before.before.before.before.before.before.before) (full t s) y f (λ z. c.before.before.before.before.before.before.before.before.before.before.before.before.before.before.before.before.if2.false (c.before.before.before.before.before.before.before.before.before.before.before.before.before.before.before.before.before.chains_below.ensures ∙ z)) c.before.before.before.before.before.before.before.before.before.before.before.before.before.reduce-one.new.1.1.0 v.given.0.0 v.given.0.1.0 (subst (λ (z : Step). StepIs (table_of s.args.table.now) s.args.work.now s.args.reading s.args.counts (get_or s.args.rest.action.rules s.args.rest.next 0) c.before.before.before.before.before.before.before.before.before.before.before.before.before.reduce-one.new.1.1.0 z) v.given.1 c.before.before.before.before.before.before.before.before.before.before.before.before.before.reduce-one.ensures)) c.before.before.before.before.before.before.apply-state.new.1.0 c.before.before.before.before.before.before.apply-state.result (told_below (here t s) s.args.rest.action s.args.rest.next (going t c.before.before.before.before.before.before.before.before.before.before.before.before.before.before.before.before.before.before.before.before.before) (full t s) y f (λ z. c.before.before.before.before.before.before.before.before.before.before.before.before.before.before.before.before.if2.false (c.before.before.before.before.before.before.before.before.before.before.before.before.before.before.before.before.before.chains_below.ensures ∙ z)) c.before.before.before.before.before.before.before.before.before.before.before.before.before.reduce-one.new.1.1.0 v.given.0.0 v.given.0.1.0 (subst (λ (z : Step). StepIs (table_of s.args.table.now) s.args.work.now s.args.reading s.args.counts (get_or s.args.rest.action.rules s.args.rest.next 0) c.before.before.before.before.before.before.before.before.before.before.before.before.before.reduce-one.new.1.1.0 z) v.given.1 c.before.before.before.before.before.before.before.before.before.before.before.before.before.reduce-one.ensures) c.before.before.before.before.before.before.apply-state.new.1.0 c.before.before.before.before.before.before.apply-state.result c.before.before.before.before.before.before.apply-state.ensures) (s.args.rest.at + c.before.before.before.before.before.before.before.before.before.before.before.before.before.before.before.before.before.before.before.marks-of-one.result) (ap (λ (n : ℕ). s.args.rest.at + n) c.before.before.before.before.before.before.before.before.before.before.before.before.before.before.before.before.before.before.before.marks-of-one.ensures) _ _ c.before.before.apply-rules2.ensures
 
 apply-rules-returns-4 : (t : ℕ) → apply-rules-lts.Need-returns-4 (apply-rules-claims t) (apply-rules-at t) apply-rules.Post
 apply-rules-returns-4 t c =
     λ y f.
     let s = c.before.before.before.before.before.before.before.before.before.before.before.before.before.before.before.before.before.before.before.before.before.before in
     let v = c.before.before.before.before.before.step2 in
-    told-rest (here t s) s.args.rest.action s.args.rest.next (going t c.before.before.before.before.before.before.before.before.before.before.before.before.before.before.before.before.before) (full t s) y f _ (refusal (here t s) s.args.rest.action s.args.rest.next (going t c.before.before.before.before.before.before.before.before.before.before.before.before.before.before.before.before.before) (full t s) y f (λ z. c.before.before.before.before.before.before.before.before.before.before.before.before.if2.false (c.before.before.before.before.before.before.before.before.before.before.before.before.before.chains-below.ensures ∙ z)) c.before.before.before.before.before.before.before.before.before.reduce-one.new.1.1.0 v.given.0.0 (subst (λ (z : Step). StepIs (table_of s.args.table.now) s.args.work.now s.args.reading s.args.counts (get_or s.args.rest.action.rules s.args.rest.next 0) c.before.before.before.before.before.before.before.before.before.reduce-one.new.1.1.0 z) v.given.1 c.before.before.before.before.before.before.before.before.before.reduce-one.ensures)) c.before.before.before.before.before.before.before.before.before.reduce-one.new.1.1.0 v.given.0.0 (told-refusal (here t s) s.args.rest.action s.args.rest.next (going t c.before.before.before.before.before.before.before.before.before.before.before.before.before.before.before.before.before) (full t s) y f (λ z. c.before.before.before.before.before.before.before.before.before.before.before.before.if2.false (c.before.before.before.before.before.before.before.before.before.before.before.before.before.chains-below.ensures ∙ z)) c.before.before.before.before.before.before.before.before.before.reduce-one.new.1.1.0 v.given.0.0 (subst (λ (z : Step). StepIs (table_of s.args.table.now) s.args.work.now s.args.reading s.args.counts (get_or s.args.rest.action.rules s.args.rest.next 0) c.before.before.before.before.before.before.before.before.before.reduce-one.new.1.1.0 z) v.given.1 c.before.before.before.before.before.before.before.before.before.reduce-one.ensures)) (s.args.rest.at + c.before.before.before.before.before.before.before.before.before.before.before.before.before.before.before.marks-of-one.result) (ap (λ (n : ℕ). s.args.rest.at + n) c.before.before.before.before.before.before.before.before.before.before.before.before.before.before.before.marks-of-one.ensures) _ _ c.before.before.apply-rules3.ensures
+    told_rest (here t s) s.args.rest.action s.args.rest.next (going t c.before.before.before.before.before.before.before.before.before.before.before.before.before.before.before.before.before) (full t s) y f _ (refusal (here t s) s.args.rest.action s.args.rest.next (going t c.before.before.before.before.before.before.before.before.before.before.before.before.before.before.before.before.before) (full t s) y f (λ z. c.before.before.before.before.before.before.before.before.before.before.before.before.if2.false (c.before.before.before.before.before.before.before.before.before.before.before.before.before.chains_below.ensures ∙ z)) c.before.before.before.before.before.before.before.before.before.reduce-one.new.1.1.0 v.given.0.0 (subst (λ (z : Step). StepIs (table_of s.args.table.now) s.args.work.now s.args.reading s.args.counts (get_or s.args.rest.action.rules s.args.rest.next 0) c.before.before.before.before.before.before.before.before.before.reduce-one.new.1.1.0 z) v.given.1 c.before.before.before.before.before.before.before.before.before.reduce-one.ensures)) c.before.before.before.before.before.before.before.before.before.reduce-one.new.1.1.0 v.given.0.0 (told_refusal (here t s) s.args.rest.action s.args.rest.next (going t c.before.before.before.before.before.before.before.before.before.before.before.before.before.before.before.before.before) (full t s) y f (λ z. c.before.before.before.before.before.before.before.before.before.before.before.before.if2.false (c.before.before.before.before.before.before.before.before.before.before.before.before.before.chains_below.ensures ∙ z)) c.before.before.before.before.before.before.before.before.before.reduce-one.new.1.1.0 v.given.0.0 (subst (λ (z : Step). StepIs (table_of s.args.table.now) s.args.work.now s.args.reading s.args.counts (get_or s.args.rest.action.rules s.args.rest.next 0) c.before.before.before.before.before.before.before.before.before.reduce-one.new.1.1.0 z) v.given.1 c.before.before.before.before.before.before.before.before.before.reduce-one.ensures)) (s.args.rest.at + c.before.before.before.before.before.before.before.before.before.before.before.before.before.before.before.marks-of-one.result) (ap (λ (n : ℕ). s.args.rest.at + n) c.before.before.before.before.before.before.before.before.before.before.before.before.before.before.before.marks-of-one.ensures) _ _ c.before.before.apply-rules3.ensures
 
 apply-state-get-cell-requires : (t : ℕ) → apply-state-lts.Need-get-cell-requires (apply-state-claims t) (apply-state-at t) apply-state.Post
 apply-state-get-cell-requires t c κs =
@@ -189,12 +189,12 @@ apply-state-apply-rules-requires t c κs =
     let s = c.before.before.before.before.before.before.before in
     let a = c.before.action-of in
     let q = s.requires.0 in
-    (omega arith, record { belongs = s.requires.1.belongs; four = four-rules s.args.table.now s.args.ask.view s.requires.1.belongs c.before.before.before.get-cell.result.state.0 s.args.ask.term.class a.result a.ensures; way = s.requires.1.way; fit = fit-rules (place s.args.table.now s.args.ask s.args.work.now s.args.reading s.args.counts s.args.at) s.requires.1.belongs c.before.before.before.get-cell.result c.before.before.before.get-cell.ensures c.before.action-of.result c.before.action-of.ensures s.requires.1.way s.requires.1.fit })
+    (omega arith, record { belongs = s.requires.1.belongs; four = four_rules s.args.table.now s.args.ask.view s.requires.1.belongs c.before.before.before.get-cell.result.state.0 s.args.ask.term.class a.result a.ensures; way = s.requires.1.way; fit = fit_rules (place s.args.table.now s.args.ask s.args.work.now s.args.reading s.args.counts s.args.at) s.requires.1.belongs c.before.before.before.get-cell.result c.before.before.before.get-cell.ensures c.before.action-of.result c.before.action-of.ensures s.requires.1.way s.requires.1.fit })
 
 apply-state-returns : (t : ℕ) → apply-state-lts.Need-returns (apply-state-claims t) (apply-state-at t) apply-state.Post
 apply-state-returns t c =
     let s = c.before.before.before.before.before.before.before.before.before.before in
-    told-state (place s.args.table.now s.args.ask s.args.work.now s.args.reading s.args.counts s.args.at) s.requires.1.belongs c.before.before.before.before.before.before.get-cell.result c.before.before.before.before.before.before.get-cell.ensures c.before.before.before.before.action-of.result c.before.before.before.before.action-of.ensures _ _ c.before.before.apply-rules.ensures
+    told_state (place s.args.table.now s.args.ask s.args.work.now s.args.reading s.args.counts s.args.at) s.requires.1.belongs c.before.before.before.before.before.before.get-cell.result c.before.before.before.before.before.before.get-cell.ensures c.before.before.before.before.action-of.result c.before.before.before.before.action-of.ensures _ _ c.before.before.apply-rules.ensures
 
 pub +apply-rules-apply-state-spec : {M : Type 1} → statement M
 +apply-rules-apply-state-spec = close μ-apply-rules μ-apply-state

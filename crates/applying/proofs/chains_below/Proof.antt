@@ -1,11 +1,11 @@
 -- `chains_below` meets its contract. Assumes nothing.
-use Rattle.applying.specs.Following.{marksOf}
+use Rattle.applying.specs.Following.{marks_of}
 use borrow.Author.Rules.{rules}
 use Rattle.applying.proofs.chains_below.Statement.{statement}
 use Rattle.applying.proofs.chains_below.Tie as tie
 
 returns : tie.Need-returns
-unfolding marksOf
+unfolding marks_of
 returns c = c.chains-mark.ensures
 
 pub chains-below-spec : {M : Type 1} → statement M

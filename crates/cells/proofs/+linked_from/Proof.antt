@@ -2,7 +2,7 @@
 use native.Mathlib.Omega.{arith}
 use borrow.Author.Rules.{rules}
 use mathlib.Core.Path.{◌∙◌}
-use Rattle.cells.proofs.Stacks.{linked-none, linked-out, linked-height, linked-state, linked-down}
+use Rattle.cells.proofs.Stacks.{linked_none, linked_out, linked_height, linked_state, linked_down}
 use Prim.Native.Nat.{ℕ, ◌<◌}
 use borrow.Fn.Kinds.{In}
 use borrow.Fn.PlainCycle.{Measures, is, falls, and}
@@ -28,25 +28,25 @@ abbrev linked-from-claims : ℕ → linked-from-lts.Claims
 linked-from-claims t = (get-cell-reads.Asked, get-cell-reads.Learnt, linked-from-below t, linked-from.Post)
 
 returns : (t : ℕ) → linked-from-lts.Need-returns (linked-from-claims t) (linked-from-at t) linked-from.Post
-returns t c = search (linked-none)
+returns t c = search (linked_none)
 
 returns-2 : (t : ℕ) → linked-from-lts.Need-returns-2 (linked-from-claims t) (linked-from-at t) linked-from.Post
-returns-2 t c = linked-out _ _ _ _ _ (λ e. omega arith) (omega arith)
+returns-2 t c = linked_out _ _ _ _ _ (λ e. omega arith) (omega arith)
 
 get-cell-requires : (t : ℕ) → linked-from-lts.Need-get-cell-requires (linked-from-claims t) (linked-from-at t) linked-from.Post
 get-cell-requires t c κs = omega arith
 
 returns-3 : (t : ℕ) → linked-from-lts.Need-returns-3 (linked-from-claims t) (linked-from-at t) linked-from.Post
-returns-3 t c = linked-height _ _ _ _ _ _ c.before.before.get-cell.ensures (λ e. omega arith) (λ e. omega arith)
+returns-3 t c = linked_height _ _ _ _ _ _ c.before.before.get-cell.ensures (λ e. omega arith) (λ e. omega arith)
 
 returns-4 : (t : ℕ) → linked-from-lts.Need-returns-4 (linked-from-claims t) (linked-from-at t) linked-from.Post
-returns-4 t c = linked-state _ _ _ _ _ _ c.before.before.before.before.get-cell.ensures (λ e. omega arith) (omega arith)
+returns-4 t c = linked_state _ _ _ _ _ _ c.before.before.before.before.get-cell.ensures (λ e. omega arith) (omega arith)
 
 linked-from-requires : (t : ℕ) → linked-from-lts.Need-linked-from-requires (linked-from-claims t) (linked-from-at t) linked-from.Post
 linked-from-requires t c κs = omega arith
 
 returns-5 : (t : ℕ) → linked-from-lts.Need-returns-5 (linked-from-claims t) (linked-from-at t) linked-from.Post
-returns-5 t c = c.linked-from.ensures ∙ search (linked-down)
+returns-5 t c = c.linked-from.ensures ∙ search (linked_down)
 
 pub +linked-from-spec : {M : Type 1} → statement M
 +linked-from-spec = close μ-linked-from λ t. linked-from-lts.spec (linked-from-claims t) (linked-from-at t) linked-from.Post (returns t) (returns-2 t) (get-cell-requires t) (returns-3 t) (returns-4 t) (λ c. search rules) (linked-from-requires t) (returns-5 t)

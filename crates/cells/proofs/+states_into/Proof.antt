@@ -4,7 +4,7 @@ use borrow.Author.Rules.{rules}
 use Prim.Native.Nat.{◌≤◌}
 use lib.ListN.{length}
 use mathlib.Core.Path.{◌∙◌}
-use Rattle.cells.proofs.Stacks.{in-room, in-under, states-none, states-more}
+use Rattle.cells.proofs.Stacks.{in_room, in_under, states_none, states_more}
 use Prim.Native.Nat.{ℕ, ◌<◌}
 use borrow.Fn.Kinds.{In}
 use borrow.Fn.PlainCycle.{Measures, is, falls, and}
@@ -30,19 +30,19 @@ abbrev states-into-claims : ℕ → states-into-lts.Claims
 states-into-claims t = (get-cell-reads.Asked, get-cell-reads.Learnt, states-into-below t, states-into.Post)
 
 returns : (t : ℕ) → states-into-lts.Need-returns (states-into-claims t) (states-into-at t) states-into.Post
-returns t c = search (states-none)
+returns t c = search (states_none)
 
 get-cell-requires : (t : ℕ) → states-into-lts.Need-get-cell-requires (states-into-claims t) (states-into-at t) states-into.Post
-get-cell-requires t c κs = search (in-room)
+get-cell-requires t c κs = search (in_room)
 
 sub-list : (t : ℕ) → states-into-lts.Need-overflow-sub-list (states-into-claims t) (states-into-at t) states-into.Post
 sub-list t c = omega arith
 
 states-into-requires : (t : ℕ) → states-into-lts.Need-states-into-requires (states-into-claims t) (states-into-at t) states-into.Post
-states-into-requires t c κs = (omega arith, (omega arith, search (in-under)))
+states-into-requires t c κs = (omega arith, (omega arith, search (in_under)))
 
 returns-2 : (t : ℕ) → states-into-lts.Need-returns-2 (states-into-claims t) (states-into-at t) states-into.Post
-returns-2 t c = let b : c.before.before.before.before.args.height ≤ length c.before.before.before.before.args.old = omega arith in c.states-into.ensures ∙ search (states-more)
+returns-2 t c = let b : c.before.before.before.before.args.height ≤ length c.before.before.before.before.args.old = omega arith in c.states-into.ensures ∙ search (states_more)
 
 pub +states-into-spec : {M : Type 1} → statement M
 +states-into-spec = close μ-states-into λ t. states-into-lts.spec (states-into-claims t) (states-into-at t) states-into.Post (returns t) (get-cell-requires t) (sub-list t) (λ c. search rules) (λ c. search rules) (λ c. search rules) (λ c. search rules) (states-into-requires t) (returns-2 t)

@@ -1,11 +1,11 @@
 -- `cells::put_cell` meets its contract. Assumes nothing.
-use Rattle.cells.specs.Pool.{putCell}
+use Rattle.cells.specs.Pool.{put_cell}
 use borrow.Author.Rules.{rules}
 use Rattle.cells.proofs.put_cell.Statement.{statement}
 use Rattle.cells.proofs.put_cell.Tie as tie
 
 returns : tie.Need-returns
-unfolding putCell
+unfolding put_cell
 returns c = cc
 
 pub put-cell-spec : {M : Type 1} → statement M

@@ -3,8 +3,8 @@
 use borrow.Author.Rules.{rules}
 use Prim.Native.Nat.{◌+◌, ◌*◌, ◌-◌}
 use native.Mathlib.Omega.{arith}
-use Rattle.chains.proofs.Actions.{four-rules}
-use Rattle.chains.proofs.Walking.{Place, SoFar, so-far-none, so-far-next, Going, Tried, Led, Below, said-end, said-reduced, led-within, ready-below, said-below, bounds-below, said-high, said-rules}
+use Rattle.chains.proofs.Actions.{four_rules}
+use Rattle.chains.proofs.Walking.{Place, SoFar, so_far_none, so_far_next, Going, Tried, Led, Below, said_end, said_reduced, led_within, ready_below, said_below, bounds_below, said_high, said_rules}
 use Prim.Native.Nat.{ℕ, ◌<◌}
 use borrow.Fn.Kinds.{In}
 use borrow.Fn.PlainCycle.{Measures, is, falls, and}
@@ -87,7 +87,7 @@ below t c = record { led = led t c.before.before; answer = c.plan-state.result; 
 plan-rules-loop-holds : (t : ℕ) → plan-rules-lts.Need-loop-init (plan-rules-claims t) (plan-rules-at t) plan-rules.Post plan-rules-Inv-loop plan-rules-μ-loop
 plan-rules-loop-holds t c =
     let s = c.before.before.before in
-    so-far-none s.args.table.now s.args.ask s.args.stack s.args.marks.now s.args.t5 s.args.from s.requires.1
+    so_far_none s.args.table.now s.args.ask s.args.stack s.args.marks.now s.args.t5 s.args.from s.requires.1
 
 plan-rules-mul-reduce-by : (t : ℕ) → plan-rules-lts.Need-overflow-mul-reduce-by (plan-rules-claims t) (plan-rules-at t) plan-rules.Post plan-rules-Inv-loop plan-rules-μ-loop
 plan-rules-mul-reduce-by t c =
@@ -114,30 +114,30 @@ plan-rules-returns : (t : ℕ) → plan-rules-lts.Need-returns (plan-rules-claim
 plan-rules-returns t c =
     let l = c.before.before.before.before.before.before in
     let v = c.before.reduced in
-    l.loop.invariant.rest _ l.loop.marks (said-reduced (here t l) (tried t c.before.before.before) v.given.0.0 l.loop.marks v.given.1)
+    l.loop.invariant.rest _ l.loop.marks (said_reduced (here t l) (tried t c.before.before.before) v.given.0.0 l.loop.marks v.given.1)
 
 plan-rules-pushed-requires : (t : ℕ) → plan-rules-lts.Need-pushed-requires (plan-rules-claims t) (plan-rules-at t) plan-rules.Post plan-rules-Inv-loop plan-rules-μ-loop
 plan-rules-pushed-requires t c κs =
     let l = c.before.before.before.before.before.before in
     let v = c.before.reduced2 in
-    (led-within (here t l) (tried t c.before.before.before) v.given.0.0 v.given.0.1.0 v.given.1).3
+    (led_within (here t l) (tried t c.before.before.before) v.given.0.0 v.given.0.1.0 v.given.1).3
 
 plan-rules-stepped-requires : (t : ℕ) → plan-rules-lts.Need-stepped-requires (plan-rules-claims t) (plan-rules-at t) plan-rules.Post plan-rules-Inv-loop plan-rules-μ-loop
 plan-rules-stepped-requires t c κs =
     let l = c.before.before.before.before.before.before.before in
     let v = c.before.before.reduced2 in
-    let k = led-within (here t l) (tried t c.before.before.before.before) v.given.0.0 v.given.0.1.0 v.given.1 in
+    let k = led_within (here t l) (tried t c.before.before.before.before) v.given.0.0 v.given.0.1.0 v.given.1 in
     (k.0, k.1)
 
 plan-rules-plan-state-requires : (t : ℕ) → plan-rules-lts.Need-plan-state-requires (plan-rules-claims t) (plan-rules-at t) plan-rules.Post plan-rules-Inv-loop plan-rules-μ-loop
 plan-rules-plan-state-requires t c κs =
     let l = c.before.before.before.before.before.before.before.before.before in
     let v = c.before.before.before.before.reduced2 in
-    let k = led-within (here t l) (tried t c.before.before.before.before.before.before) v.given.0.0 v.given.0.1.0 v.given.1 in
+    let k = led_within (here t l) (tried t c.before.before.before.before.before.before) v.given.0.0 v.given.0.1.0 v.given.1 in
     let e = c.before.stepped.ensures.left in
     let f = l.loop.invariant.left in
     let p = c.before.before.before.before.before.before.before.before.before.before.before.before.before.requires.0 in
-    (omega arith, ready-below (here t l) (led t c.before) l.loop.marks l.loop.invariant.ready.ready)
+    (omega arith, ready_below (here t l) (led t c.before) l.loop.marks l.loop.invariant.ready.ready)
 
 plan-rules-same-length-2 : (t : ℕ) → plan-rules-lts.Need-same-length-2 (plan-rules-claims t) (plan-rules-at t) plan-rules.Post plan-rules-Inv-loop plan-rules-μ-loop
 plan-rules-same-length-2 t c =
@@ -152,7 +152,7 @@ plan-rules-returns-2 t c =
     let l = c.before.before.before.before.before.before.before.before.before.before.before.before.before.before.before in
     let d = c.before.before.before.before.before in
     let v = c.before.below in
-    l.loop.invariant.rest _ d.plan-state.new.1.1.1.1.0 (said-below (here t l) l.loop.marks d.plan-state.new.1.1.1.1.0 (below t d) v.given.0.0 v.given.1)
+    l.loop.invariant.rest _ d.plan-state.new.1.1.1.1.0 (said_below (here t l) l.loop.marks d.plan-state.new.1.1.1.1.0 (below t d) v.given.0.0 v.given.1)
 
 plan-rules-put-mark-requires : (t : ℕ) → plan-rules-lts.Need-put-mark-requires (plan-rules-claims t) (plan-rules-at t) plan-rules.Post plan-rules-Inv-loop plan-rules-μ-loop
 plan-rules-put-mark-requires t c κs =
@@ -161,7 +161,7 @@ plan-rules-put-mark-requires t c κs =
     let v = c.before.before.below2 in
     let k = d.plan-state.auto.1.1.1.1.0 in
     let e = l.loop.invariant.ready.ready.long in
-    let b = bounds-below (here t l) l.loop.marks d.plan-state.new.1.1.1.1.0 (below t d) v.given.0.0 v.given.0.1.0 v.given.1 l.loop.invariant.ready.ready.fits in
+    let b = bounds_below (here t l) l.loop.marks d.plan-state.new.1.1.1.1.0 (below t d) v.given.0.0 v.given.0.1.0 v.given.1 l.loop.invariant.ready.ready.fits in
     let f = l.loop.invariant.ready.ready.bound in
     record { more = omega arith; few = omega arith; grown = omega arith; bound = omega arith; long = omega arith }
 
@@ -182,7 +182,7 @@ plan-rules-loop-again t c =
     let k = d.plan-state.auto.1.1.1.1.0 in
     let e = l.loop.invariant.ready.ready.long in
     let u = c.before.before.put-mark in
-    so-far-next (here t l) l.loop.marks d.plan-state.new.1.1.1.1.0 (below t d) v.given.0.0 v.given.0.1.0 v.given.1 l.loop.invariant.ready.ready.fits c.before.before.before.before.before.before.before.before.before.before.before.before.before.before.before.before.before.before.before.before.before.before.before.args.marks.now c.before.before.before.before.before.before.before.before.before.before.before.before.before.before.before.before.before.before.before.before.before.before.before.args.from l.loop.invariant u.new.0 (omega arith) u.ensures
+    so_far_next (here t l) l.loop.marks d.plan-state.new.1.1.1.1.0 (below t d) v.given.0.0 v.given.0.1.0 v.given.1 l.loop.invariant.ready.ready.fits c.before.before.before.before.before.before.before.before.before.before.before.before.before.before.before.before.before.before.before.before.before.before.before.args.marks.now c.before.before.before.before.before.before.before.before.before.before.before.before.before.before.before.before.before.before.before.before.before.before.before.args.from l.loop.invariant u.new.0 (omega arith) u.ensures
 
 plan-rules-end-chain-requires : (t : ℕ) → plan-rules-lts.Need-end-chain-requires (plan-rules-claims t) (plan-rules-at t) plan-rules.Post plan-rules-Inv-loop plan-rules-μ-loop
 plan-rules-end-chain-requires t c κs =
@@ -196,7 +196,7 @@ plan-rules-same-length-3 t c =
 plan-rules-returns-3 : (t : ℕ) → plan-rules-lts.Need-returns-3 (plan-rules-claims t) (plan-rules-at t) plan-rules.Post plan-rules-Inv-loop plan-rules-μ-loop
 plan-rules-returns-3 t c =
     let l = c.before.before in
-    l.loop.invariant.rest c.end-chain.result l.loop.marks (said-end (here t l) c.end-chain.result l.loop.marks (omega (arith, c.before.before.before.wide.ensures, c.before.loop-test.false)) c.end-chain.ensures)
+    l.loop.invariant.rest c.end-chain.result l.loop.marks (said_end (here t l) c.end-chain.result l.loop.marks (omega (arith, c.before.before.before.wide.ensures, c.before.loop-test.false)) c.end-chain.ensures)
 
 plan-state-returns : (t : ℕ) → plan-state-lts.Need-returns (plan-state-claims t) (plan-state-at t) plan-state.Post
 plan-state-returns t c =
@@ -204,7 +204,7 @@ plan-state-returns t c =
     let o = c.before.before.before.top in
     let a = c.before.before.action-of in
     let h = c.before.too-high in
-    said-high s.args.table.now s.args.ask s.args.stack s.args.at s.requires.1.belongs o.result o.ensures a.result a.ensures h.result h.ensures s.args.marks.now c.if1.true
+    said_high s.args.table.now s.args.ask s.args.stack s.args.at s.requires.1.belongs o.result o.ensures a.result a.ensures h.result h.ensures s.args.marks.now c.if1.true
 
 plan-state-plan-rules-requires : (t : ℕ) → plan-state-lts.Need-plan-rules-requires (plan-state-claims t) (plan-state-at t) plan-state.Post
 plan-state-plan-rules-requires t c κs =
@@ -212,7 +212,7 @@ plan-state-plan-rules-requires t c κs =
     let o = c.before.before.before.before.top in
     let a = c.before.before.before.action-of in
     let p = s.requires.0 in
-    (omega arith, record { ready = s.requires.1; four = four-rules s.args.table.now s.args.ask.view s.requires.1.belongs o.result.0 s.args.ask.class a.result a.ensures })
+    (omega arith, record { ready = s.requires.1; four = four_rules s.args.table.now s.args.ask.view s.requires.1.belongs o.result.0 s.args.ask.class a.result a.ensures })
 
 plan-state-returns-2 : (t : ℕ) → plan-state-lts.Need-returns-2 (plan-state-claims t) (plan-state-at t) plan-state.Post
 plan-state-returns-2 t c =
@@ -221,7 +221,7 @@ plan-state-returns-2 t c =
     let a = c.before.before.before.before.before.before.action-of in
     let h = c.before.before.before.before.before.too-high in
     let r = c.before.before.plan-rules in
-    said-rules s.args.table.now s.args.ask s.args.stack s.args.at s.requires.1.belongs o.result o.ensures a.result a.ensures h.result h.ensures r.result s.args.marks.now r.new.1.1.1.1.1.0 c.before.before.before.before.if1.false r.ensures
+    said_rules s.args.table.now s.args.ask s.args.stack s.args.at s.requires.1.belongs o.result o.ensures a.result a.ensures h.result h.ensures r.result s.args.marks.now r.new.1.1.1.1.1.0 c.before.before.before.before.if1.false r.ensures
 
 pub +plan-rules-plan-state-spec : {M : Type 1} → statement M
 +plan-rules-plan-state-spec = close μ-plan-rules μ-plan-state

@@ -1,11 +1,11 @@
 -- `chains::chains_mark` meets its contract. Assumes nothing.
-use Rattle.chains.specs.Marks.{chainsMark}
+use Rattle.chains.specs.Marks.{chains_mark}
 use borrow.Author.Rules.{rules}
 use Rattle.chains.proofs.chains_mark.Statement.{statement}
 use Rattle.chains.proofs.chains_mark.Tie as tie
 
 returns : tie.Need-returns
-unfolding chainsMark
+unfolding chains_mark
 returns c = search rules
 
 pub chains-mark-spec : {M : Type 1} → statement M

@@ -1,11 +1,11 @@
 -- `chains::size_mark` meets its contract. Assumes nothing.
-use Rattle.chains.specs.Marks.{sizeMark}
+use Rattle.chains.specs.Marks.{size_mark}
 use borrow.Author.Rules.{rules}
 use Rattle.chains.proofs.size_mark.Statement.{statement}
 use Rattle.chains.proofs.size_mark.Tie as tie
 
 returns : tie.Need-returns
-unfolding sizeMark
+unfolding size_mark
 returns c = search rules
 
 pub size-mark-spec : {M : Type 1} → statement M

@@ -1,11 +1,11 @@
 -- `ask_recovers`: the line is tested before it is asked of.
-use Rattle.chains_limits.proofs.Lines.{line-asked}
+use Rattle.chains_limits.proofs.Lines.{line_asked}
 use borrow.Author.Rules.{rules}
 use Rattle.chains_limits.proofs.ask_recovers.Statement.{statement}
 use Rattle.chains_limits.proofs.ask_recovers.Tie as tie
 
 recovers-stack-requires : tie.Need-recovers-stack-requires
-recovers-stack-requires c κs = search (line-asked)
+recovers-stack-requires c κs = search (line_asked)
 
 pub ask-recovers-spec : {M : Type 1} → statement M
 ask-recovers-spec =

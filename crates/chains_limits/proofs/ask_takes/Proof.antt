@@ -1,11 +1,11 @@
 -- `ask_takes`: the line is tested before it is asked of.
-use Rattle.chains_limits.proofs.Lines.{line-asked}
+use Rattle.chains_limits.proofs.Lines.{line_asked}
 use borrow.Author.Rules.{rules}
 use Rattle.chains_limits.proofs.ask_takes.Statement.{statement}
 use Rattle.chains_limits.proofs.ask_takes.Tie as tie
 
 can-plan-stack-requires : tie.Need-can-plan-stack-requires
-can-plan-stack-requires c κs = search (line-asked)
+can-plan-stack-requires c κs = search (line_asked)
 
 pub ask-takes-spec : {M : Type 1} → statement M
 ask-takes-spec =

@@ -1,17 +1,17 @@
 -- `checking::find` meets its contract. Assumes nothing.
-use Rattle.checks.proofs.Checks.{found-wrong-table, found-wrong-state, found_right}
+use Rattle.checks.proofs.Checks.{found_wrong_table, found_wrong_state, found_right}
 use borrow.Author.Rules.{rules}
 use Rattle.checks.proofs.find.Statement.{statement}
 use Rattle.checks.proofs.find.Tie as tie
 
 returns : tie.Need-returns
-returns c = search (found-wrong-table)
+returns c = search (found_wrong_table)
 
 returns-2 : tie.Need-returns-2
 returns-2 c = search (found_right)
 
 returns-3 : tie.Need-returns-3
-returns-3 c = search (found-wrong-state)
+returns-3 c = search (found_wrong_state)
 
 pub find_spec : {M : Type 1} → statement M
 find_spec =

@@ -1,7 +1,7 @@
 -- `commit::commit_from` meets its contract. Assumes nothing.
 use native.Mathlib.Omega.{arith}
 use borrow.Author.Rules.{rules}
-use Rattle.commit.proofs.Results.{from-none, from_more, ready-one, ready-more}
+use Rattle.commit.proofs.Results.{from_none, from_more, ready_one, ready_more}
 use Prim.Native.Nat.{ℕ, ◌<◌}
 use borrow.Fn.Kinds.{In}
 use borrow.Fn.PlainCycle.{Measures, is, falls, and}
@@ -27,16 +27,16 @@ abbrev commit-from-claims : ℕ → commit-from-lts.Claims
 commit-from-claims t = (commit-one-reads.Asked, commit-one-reads.Learnt, commit-from-below t, commit-from.Post)
 
 returns : (t : ℕ) → commit-from-lts.Need-returns (commit-from-claims t) (commit-from-at t) commit-from.Post
-returns t c = search (from-none)
+returns t c = search (from_none)
 
 commit-one-requires : (t : ℕ) → commit-from-lts.Need-commit-one-requires (commit-from-claims t) (commit-from-at t) commit-from.Post
-commit-one-requires t c κs = search (ready-one)
+commit-one-requires t c κs = search (ready_one)
 
 add-commit-from : (t : ℕ) → commit-from-lts.Need-overflow-add-commit-from (commit-from-claims t) (commit-from-at t) commit-from.Post
 add-commit-from t c = omega arith
 
 commit-from-requires : (t : ℕ) → commit-from-lts.Need-commit-from-requires (commit-from-claims t) (commit-from-at t) commit-from.Post
-commit-from-requires t c κs = (omega arith, search (ready-more))
+commit-from-requires t c κs = (omega arith, search (ready_more))
 
 returns-2 : (t : ℕ) → commit-from-lts.Need-returns-2 (commit-from-claims t) (commit-from-at t) commit-from.Post
 returns-2 t c = search (from_more)

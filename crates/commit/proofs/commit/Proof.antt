@@ -1,11 +1,11 @@
 -- `commit::commit` meets its contract. Assumes nothing.
-use Rattle.commit.proofs.Promise.{ready-first, commits}
+use Rattle.commit.proofs.Promise.{ready_first, commits}
 use borrow.Author.Rules.{rules}
 use Rattle.commit.proofs.commit.Statement.{statement}
 use Rattle.commit.proofs.commit.Tie as tie
 
 commit-from-requires : tie.Need-commit-from-requires
-commit-from-requires c κs = search (ready-first)
+commit-from-requires c κs = search (ready_first)
 
 returns : tie.Need-returns
 returns c = search (commits)

@@ -1,14 +1,14 @@
 -- `commit::move_cell` meets its contract. Assumes nothing.
-use Rattle.commit.proofs.Steps.{step-old, step-new}
+use Rattle.commit.proofs.Steps.{step_old, step_new}
 use borrow.Author.Rules.{rules}
 use Rattle.commit.proofs.move_cell.Statement.{statement}
 use Rattle.commit.proofs.move_cell.Tie as tie
 
 returns : tie.Need-returns
-returns c = search (step-old)
+returns c = search (step_old)
 
 returns-2 : tie.Need-returns-2
-returns-2 c = search (step-new)
+returns-2 c = search (step_new)
 
 pub move-cell-spec : {M : Type 1} → statement M
 move-cell-spec =

@@ -1,11 +1,11 @@
 -- `commit::put_moved` meets its contract. Assumes nothing.
-use Rattle.commit.specs.Moving.{putMoved}
+use Rattle.commit.specs.Moving.{put_moved}
 use borrow.Author.Rules.{rules}
 use Rattle.commit.proofs.put_moved.Statement.{statement}
 use Rattle.commit.proofs.put_moved.Tie as tie
 
 returns : tie.Need-returns
-unfolding putMoved
+unfolding put_moved
 returns c = cc
 
 pub put-moved-spec : {M : Type 1} → statement M

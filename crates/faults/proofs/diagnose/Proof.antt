@@ -1,14 +1,14 @@
 -- `faults::diagnose` meets its contract. Assumes nothing.
-use Rattle.faults.proofs.Agreeing.{diagnosed-right, diagnosed-wrong}
+use Rattle.faults.proofs.Agreeing.{diagnosed_right, diagnosed_wrong}
 use borrow.Author.Rules.{rules}
 use Rattle.faults.proofs.diagnose.Statement.{statement}
 use Rattle.faults.proofs.diagnose.Tie as tie
 
 returns : tie.Need-returns
-returns c = search (diagnosed-right)
+returns c = search (diagnosed_right)
 
 returns-2 : tie.Need-returns-2
-returns-2 c = search (diagnosed-wrong)
+returns-2 c = search (diagnosed_wrong)
 
 pub diagnose-spec : {M : Type 1} → statement M
 diagnose-spec =

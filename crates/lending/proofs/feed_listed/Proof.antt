@@ -65,7 +65,7 @@ use Rattle.machine.proofs.Machine.feed.Symbol as inner-def
 use Rattle.machine.proofs.Machine.feed.Symbol.{name as #feed}
 use Rattle.machine.proofs.Machine.feed.Met as inner-thm
 use Rattle.lending.specs.declared.FedList.{FedList}
-use Rattle.lending.proofs.Fields.{list-field}
+use Rattle.lending.proofs.Fields.{list_field}
 use Rattle.lending.specs.contracts.FedList as G
 use Rattle.lending.proofs.FedList.TheLaws as G'
 use Rattle.lending.specs.contracts.feed_listed.Key.{name as #feed-listed}
@@ -133,7 +133,7 @@ module _ {M : Type 1} {𝓤 : Ura M} (𝓛 : Logic 𝓤) (at_mem : Memory → SP
   v-handed r zs = vstruct (vcons (EL.val F.the_type F'.the_laws r) (vcons (only (list-vals zs)) vnil))
 
   handed-is : (r : FeedAnswer) (zs : List ErrorRecord) → Is F.the_row r (EL.vals F.the_type F'.the_laws r) → Is L zs (list-vals zs) → Is G.the_row (handed r zs) (v-handed r zs ∷ [])
-  handed-is r zs is-r is = ((EL.vals F.the_type F'.the_laws r, (list-vals zs, tt)), (refl, (is-r, (list-field T.the_type 32 zs (list-vals zs) is, tt))))
+  handed-is r zs is-r is = ((EL.vals F.the_type F'.the_laws r, (list-vals zs, tt)), (refl, (is-r, (list_field T.the_type 32 zs (list-vals zs) is, tt))))
 
   abbrev Table : Item 𝓤
   Table = ‵ ((ShrSlice (named 0) κ₀ u8).own_val tb (shr_slice_vals tb))
@@ -253,19 +253,19 @@ module _ {M : Type 1} {𝓤 : Ura M} (𝓛 : Logic 𝓤) (at_mem : Memory → SP
         rewrite ! 0 (λ (us : List Val). ‵ (cell_at full_share L.mir us l₆ 0)) (list_tells (list-last ws) vs is) refl $
         use1 𝓛 (‵ (fat full_share list-ty l₆ 0 (only (list-vals (list-last ws))))) (𝓛.laws.raw_at full_share list-ty l₆ 0 (only (list-vals (list-last ws)))) $
         -- [_6; true; κ₂; κ₁; κ₀; the work area's last; the state's; table; true; before; true; t; _14; …; _7; …; (_6's right); _5; …; _4; …; _3; …; _2; …; _1; …; room for _0; …]
-        assigns ! (of_opd ! (load ! (from ! (stop !)) (look ! 0 refl))) (from ! (stop !)) (init ! 12 refl (list-typed (list-last ws) (list-is (list-last ws) vs is))) $
+        assigns ! (of_opd ! (load ! (from ! (stop !)) (look ! 0 refl))) (from ! (stop !)) (init ! 12 refl (list-typed (list-last ws) (list_is (list-last ws) vs is))) $
         assigns ! (agg ! (and_then ! (load ! (from ! (stop !)) (look ! 26 refl)) (and_then ! (load ! (from ! (stop !)) (look ! 12 refl)) (no_more !)))) (from ! (stop !))
-        (init ! 39 refl ((LL.lawful G.the_type G'.the_laws 𝓛).typed (handed r (list-last ws)) _ (handed-is r (list-last ws) (answer-is r u is-u) (list-is (list-last ws) vs is))).0) $
+        (init ! 39 refl ((LL.lawful G.the_type G'.the_laws 𝓛).typed (handed r (list-last ws)) _ (handed-is r (list-last ws) (answer_is r u is-u) (list_is (list-last ws) vs is))).0) $
         returns ! (look ! 39 refl) $ forget ! 0 refl $ forget ! 12 refl $ forget ! 14 refl $ forget ! 16 refl $ forget ! 18 refl $ forget ! 20 refl $ forget ! 22 refl $ forget ! 24 refl $ forget ! 26 refl $ forget ! 29 refl $ forget ! 31 refl $ forget ! 33 refl $ forget ! 35 refl $ forget ! 37 refl $ forget ! 39 refl $
         move ! (39 ∷ 40 ∷ []) $ free1 ! $ move ! (37 ∷ 38 ∷ []) $ free1 ! $ move ! (35 ∷ 36 ∷ []) $ free1 ! $ move ! (33 ∷ 34 ∷ []) $ free1 ! $ move ! (31 ∷ 32 ∷ []) $ free1 ! $ move ! (29 ∷ 30 ∷ []) $ free1 ! $ move ! (0 ∷ 28 ∷ []) $ free1 ! $
         move ! (25 ∷ 26 ∷ []) $ free1 ! $ move ! (23 ∷ 24 ∷ []) $ free1 ! $ move ! (21 ∷ 22 ∷ []) $ free1 ! $ move ! (19 ∷ 20 ∷ []) $ free1 ! $ move ! (17 ∷ 18 ∷ []) $ free1 ! $ move ! (15 ∷ 16 ∷ []) $ free1 ! $ move ! (13 ∷ 14 ∷ []) $ free1 ! $ move ! (11 ∷ 12 ∷ []) $ free1 ! $ free0 ! $
-        keep ! (3 ∷ 2 ∷ 1 ∷ 6 ∷ 5 ∷ 4 ∷ []) $ by ! (exits r ws.1.0 ws.1.1.0 (list-last ws) (answer-is r u is-u) (list-is (list-last ws) vs is) g ls lw)))))))))))))))))))))))))))))
+        keep ! (3 ∷ 2 ∷ 1 ∷ 6 ∷ 5 ∷ 4 ∷ []) $ by ! (exits r ws.1.0 ws.1.1.0 (list-last ws) (answer_is r u is-u) (list_is (list-last ws) vs is) g ls lw)))))))))))))))))))))))))))))
       where
-        answer-is : (r : FeedAnswer) (u : Val) → Is F.the_row r (u ∷ []) → Is F.the_row r (EL.vals F.the_type F'.the_laws r)
-        answer-is r u is = subst (Is F.the_row r) (EL.tells F.the_type F'.the_laws r (u ∷ []) is) is
+        answer_is : (r : FeedAnswer) (u : Val) → Is F.the_row r (u ∷ []) → Is F.the_row r (EL.vals F.the_type F'.the_laws r)
+        answer_is r u is = subst (Is F.the_row r) (EL.tells F.the_type F'.the_laws r (u ∷ []) is) is
 
-        list-is : (zs : List ErrorRecord) (vs : List Val) → Is L zs vs → Is L zs (list-vals zs)
-        list-is zs vs is = subst (Is L zs) (list_tells zs vs is) is
+        list_is : (zs : List ErrorRecord) (vs : List Val) → Is L zs vs → Is L zs (list-vals zs)
+        list_is zs vs is = subst (Is L zs) (list_tells zs vs is) is
 
 module _ {M : Type 1} {𝓤 : Ura M} (𝓛 : Logic 𝓤) (mem : Memory → SProp 𝓤) (run : Routine → Fun 𝓤) where
   open 𝓛 use {H}

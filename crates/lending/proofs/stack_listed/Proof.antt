@@ -63,7 +63,7 @@ use Rattle.machine.proofs.Machine.stack.Symbol as inner-def
 use Rattle.machine.proofs.Machine.stack.Symbol.{name as #stack}
 use Rattle.machine.proofs.Machine.stack.Met as inner-thm
 use Rattle.lending.specs.declared.StackList.{StackList}
-use Rattle.lending.proofs.Fields.{list-field}
+use Rattle.lending.proofs.Fields.{list_field}
 use Rattle.lending.specs.contracts.StackList as G
 use Rattle.lending.proofs.StackList.TheLaws as G'
 use Rattle.lending.specs.contracts.stack_listed.Key.{name as #stack-listed}
@@ -128,7 +128,7 @@ module _ {M : Type 1} {𝓤 : Ura M} (𝓛 : Logic 𝓤) (at_mem : Memory → SP
   v-handed r zs = vstruct (vcons (EL.val F.the_type F'.the_laws r) (vcons (only (list-vals zs)) vnil))
 
   handed-is : (r : StackAnswer) (zs : List Entry) → Is F.the_row r (EL.vals F.the_type F'.the_laws r) → Is L zs (list-vals zs) → Is G.the_row (handed r zs) (v-handed r zs ∷ [])
-  handed-is r zs is-r is = ((EL.vals F.the_type F'.the_laws r, (list-vals zs, tt)), (refl, (is-r, (list-field T.the_type 64 zs (list-vals zs) is, tt))))
+  handed-is r zs is-r is = ((EL.vals F.the_type F'.the_laws r, (list-vals zs, tt)), (refl, (is-r, (list_field T.the_type 64 zs (list-vals zs) is, tt))))
 
   abbrev Table : Item 𝓤
   Table = ‵ ((ShrSlice (named 0) κ₀ u8).own_val tb (shr_slice_vals tb))
@@ -244,19 +244,19 @@ module _ {M : Type 1} {𝓤 : Ura M} (𝓛 : Logic 𝓤) (at_mem : Memory → SP
         rewrite ! 0 (λ (us : List Val). ‵ (cell_at full_share L.mir us l₅ 0)) (list_tells (list-last ws) vs is) refl $
         use1 𝓛 (‵ (fat full_share list-ty l₅ 0 (only (list-vals (list-last ws))))) (𝓛.laws.raw_at full_share list-ty l₅ 0 (only (list-vals (list-last ws)))) $
         -- [_5; true; κ₁; κ₀; state; table; true; before; true; number; _9; …; _8; …; _7; …; _6; …; (_5's right); _4; …; _3; …; _2; …; _1; …; room for _0; …]
-        assigns ! (of_opd ! (load ! (from ! (stop !)) (look ! 0 refl))) (from ! (stop !)) (init ! 10 refl (list-typed (list-last ws) (list-is (list-last ws) vs is))) $
+        assigns ! (of_opd ! (load ! (from ! (stop !)) (look ! 0 refl))) (from ! (stop !)) (init ! 10 refl (list-typed (list-last ws) (list_is (list-last ws) vs is))) $
         assigns ! (agg ! (and_then ! (load ! (from ! (stop !)) (look ! 16 refl)) (and_then ! (load ! (from ! (stop !)) (look ! 10 refl)) (no_more !)))) (from ! (stop !))
-        (init ! 27 refl ((LL.lawful G.the_type G'.the_laws 𝓛).typed (handed r (list-last ws)) _ (handed-is r (list-last ws) (answer-is r u is-u) (list-is (list-last ws) vs is))).0) $
+        (init ! 27 refl ((LL.lawful G.the_type G'.the_laws 𝓛).typed (handed r (list-last ws)) _ (handed-is r (list-last ws) (answer_is r u is-u) (list_is (list-last ws) vs is))).0) $
         returns ! (look ! 27 refl) $ forget ! 0 refl $ forget ! 10 refl $ forget ! 12 refl $ forget ! 14 refl $ forget ! 16 refl $ forget ! 19 refl $ forget ! 21 refl $ forget ! 23 refl $ forget ! 25 refl $ forget ! 27 refl $
         move ! (27 ∷ 28 ∷ []) $ free1 ! $ move ! (25 ∷ 26 ∷ []) $ free1 ! $ move ! (23 ∷ 24 ∷ []) $ free1 ! $ move ! (21 ∷ 22 ∷ []) $ free1 ! $ move ! (19 ∷ 20 ∷ []) $ free1 ! $ move ! (0 ∷ 18 ∷ []) $ free1 ! $
         move ! (15 ∷ 16 ∷ []) $ free1 ! $ move ! (13 ∷ 14 ∷ []) $ free1 ! $ move ! (11 ∷ 12 ∷ []) $ free1 ! $ move ! (9 ∷ 10 ∷ []) $ free1 ! $ free0 ! $
-        keep ! (2 ∷ 1 ∷ 4 ∷ 3 ∷ []) $ by ! (exits r (list-last ws) (answer-is r u is-u) (list-is (list-last ws) vs is) g))))))))))))))))))))))
+        keep ! (2 ∷ 1 ∷ 4 ∷ 3 ∷ []) $ by ! (exits r (list-last ws) (answer_is r u is-u) (list_is (list-last ws) vs is) g))))))))))))))))))))))
       where
-        answer-is : (r : StackAnswer) (u : Val) → Is F.the_row r (u ∷ []) → Is F.the_row r (EL.vals F.the_type F'.the_laws r)
-        answer-is r u is = subst (Is F.the_row r) (EL.tells F.the_type F'.the_laws r (u ∷ []) is) is
+        answer_is : (r : StackAnswer) (u : Val) → Is F.the_row r (u ∷ []) → Is F.the_row r (EL.vals F.the_type F'.the_laws r)
+        answer_is r u is = subst (Is F.the_row r) (EL.tells F.the_type F'.the_laws r (u ∷ []) is) is
 
-        list-is : (zs : List Entry) (vs : List Val) → Is L zs vs → Is L zs (list-vals zs)
-        list-is zs vs is = subst (Is L zs) (list_tells zs vs is) is
+        list_is : (zs : List Entry) (vs : List Val) → Is L zs vs → Is L zs (list-vals zs)
+        list_is zs vs is = subst (Is L zs) (list_tells zs vs is) is
 
 module _ {M : Type 1} {𝓤 : Ura M} (𝓛 : Logic 𝓤) (mem : Memory → SProp 𝓤) (run : Routine → Fun 𝓤) where
   open 𝓛 use {H}

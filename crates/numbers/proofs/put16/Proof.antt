@@ -1,5 +1,5 @@
 -- `numbers::put16` meets its contract. Assumes nothing.
-use Rattle.numbers.specs.Writing.{putU16}
+use Rattle.numbers.specs.Writing.{put_u16}
 use mathlib.Core.Path.{refl}
 use native.Mathlib.Omega.{arith}
 use lib.ListN.{length-set}
@@ -11,7 +11,7 @@ slice-write-bytes-2 : tie.Need-slice-write-bytes-2
 slice-write-bytes-2 c = simp length-set (omega arith)
 
 returns : tie.Need-returns
-unfolding putU16
+unfolding put_u16
 returns c = refl
 
 pub put16-spec : {M : Type 1} → statement M

@@ -2,8 +2,8 @@
 use native.Mathlib.Omega.{arith}
 use borrow.Author.Rules.{rules}
 use mathlib.Core.Path.{◌∙◌}
-use Rattle.state.proofs.Holding.{first_slot, top-room}
-use Rattle.questions.proofs.Answering.{asks-stack, asks_rest, takes_none, takes-on, takes-yes, takes-refused}
+use Rattle.state.proofs.Holding.{first_slot, top_room}
+use Rattle.questions.proofs.Answering.{asks_stack, asks_rest, takes_none, takes_on_lem, takes_yes, takes_refused}
 use Prim.Native.Nat.{ℕ, ◌<◌}
 use borrow.Fn.Kinds.{In}
 use borrow.Fn.PlainCycle.{Measures, is, falls, and}
@@ -37,22 +37,22 @@ get-slot-requires : (t : ℕ) → takes-from-lts.Need-get-slot-requires (takes-f
 get-slot-requires t c κs = search (first_slot)
 
 get-cell-requires : (t : ℕ) → takes-from-lts.Need-get-cell-requires (takes-from-claims t) (takes-from-at t) takes-from.Post
-get-cell-requires t c κs = search (top-room)
+get-cell-requires t c κs = search (top_room)
 
 can-plan-stack-requires : (t : ℕ) → takes-from-lts.Need-can-plan-stack-requires (takes-from-claims t) (takes-from-at t) takes-from.Post
-can-plan-stack-requires t c κs = search (asks-stack)
+can-plan-stack-requires t c κs = search (asks_stack)
 
 takes-from-requires : (t : ℕ) → takes-from-lts.Need-takes-from-requires (takes-from-claims t) (takes-from-at t) takes-from.Post
 takes-from-requires t c κs = (omega arith, search (asks_rest))
 
 returns-2 : (t : ℕ) → takes-from-lts.Need-returns-2 (takes-from-claims t) (takes-from-at t) takes-from.Post
-returns-2 t c = c.before.before.takes-from.ensures ∙ search (takes-on)
+returns-2 t c = c.before.before.takes-from.ensures ∙ search (takes_on_lem)
 
 returns-3 : (t : ℕ) → takes-from-lts.Need-returns-3 (takes-from-claims t) (takes-from-at t) takes-from.Post
-returns-3 t c = search (takes-yes)
+returns-3 t c = search (takes_yes)
 
 returns-4 : (t : ℕ) → takes-from-lts.Need-returns-4 (takes-from-claims t) (takes-from-at t) takes-from.Post
-returns-4 t c = search (takes-refused)
+returns-4 t c = search (takes_refused)
 
 pub +takes-from-spec : {M : Type 1} → statement M
 +takes-from-spec = close μ-takes-from λ t. takes-from-lts.spec (takes-from-claims t) (takes-from-at t) takes-from.Post (returns t) (get-slot-requires t) (get-cell-requires t) (can-plan-stack-requires t) (λ c. search rules) (λ c. search rules) (λ c. search rules) (takes-from-requires t) (λ c. search rules) (λ c. search rules) (λ c. search rules) (returns-2 t) (λ c. search rules) (returns-3 t) (λ c. search rules) (returns-4 t)

@@ -1,12 +1,12 @@
 -- `takes`: all readings of the state.
 use mathlib.Core.Path.{◌∙◌}
-use Rattle.questions.proofs.Answering.{asks-all, takes_all}
+use Rattle.questions.proofs.Answering.{asks_all, takes_all}
 use borrow.Author.Rules.{rules}
 use Rattle.questions.proofs.takes.Statement.{statement}
 use Rattle.questions.proofs.takes.Tie as tie
 
 takes-from-requires : tie.Need-takes-from-requires
-takes-from-requires c κs = search (asks-all)
+takes-from-requires c κs = search (asks_all)
 
 returns : tie.Need-returns
 returns c = c.before.before.takes-from.ensures ∙ search (takes_all)

@@ -2,7 +2,7 @@
 use native.Mathlib.Omega.{arith}
 use borrow.Author.Rules.{rules}
 use mathlib.Core.Path.{◌∙◌}
-use Rattle.state.proofs.Holding.{first_slot, top-room, top-stack, list-rest, held_none, held-here, held-rest}
+use Rattle.state.proofs.Holding.{first_slot, top_room, top_stack, list_rest, held_none, held_here, held_rest}
 use Prim.Native.Nat.{ℕ, ◌<◌}
 use borrow.Fn.Kinds.{In}
 use borrow.Fn.PlainCycle.{Measures, is, falls, and}
@@ -34,19 +34,19 @@ get-slot-requires : (t : ℕ) → held-by-lts.Need-get-slot-requires (held-by-cl
 get-slot-requires t c κs = search (first_slot)
 
 get-cell-requires : (t : ℕ) → held-by-lts.Need-get-cell-requires (held-by-claims t) (held-by-at t) held-by.Post
-get-cell-requires t c κs = search (top-room)
+get-cell-requires t c κs = search (top_room)
 
 holds-cell-requires : (t : ℕ) → held-by-lts.Need-holds-cell-requires (held-by-claims t) (held-by-at t) held-by.Post
-holds-cell-requires t c κs = search (top-stack)
+holds-cell-requires t c κs = search (top_stack)
 
 returns-2 : (t : ℕ) → held-by-lts.Need-returns-2 (held-by-claims t) (held-by-at t) held-by.Post
-returns-2 t c = search (held-here)
+returns-2 t c = search (held_here)
 
 held-by-requires : (t : ℕ) → held-by-lts.Need-held-by-requires (held-by-claims t) (held-by-at t) held-by.Post
-held-by-requires t c κs = (omega arith, search (list-rest))
+held-by-requires t c κs = (omega arith, search (list_rest))
 
 returns-3 : (t : ℕ) → held-by-lts.Need-returns-3 (held-by-claims t) (held-by-at t) held-by.Post
-returns-3 t c = c.held-by.ensures ∙ search (held-rest)
+returns-3 t c = c.held-by.ensures ∙ search (held_rest)
 
 pub +held-by-spec : {M : Type 1} → statement M
 +held-by-spec = close μ-held-by λ t. held-by-lts.spec (held-by-claims t) (held-by-at t) held-by.Post (returns t) (get-slot-requires t) (get-cell-requires t) (holds-cell-requires t) (returns-2 t) (λ c. search rules) (λ c. search rules) (held-by-requires t) (returns-3 t)

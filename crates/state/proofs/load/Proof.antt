@@ -5,7 +5,7 @@ use mathlib.Core.List.{◌++◌}
 use mathlib.Core.Path.{◌≡◌, refl}
 use Prim.Native.Nat.{◌≤◌, ◌-◌}
 use lib.ListN.{length, take, drop, length-set}
-use Rattle.state.proofs.Loading.{load-more, load-done}
+use Rattle.state.proofs.Loading.{load_more, load_done}
 use Rattle.state.proofs.load.Statement.{statement}
 use Rattle.state.proofs.load.Tie as tie
 
@@ -19,10 +19,10 @@ loop-holds : tie.Need-loop-init invariant-loop decreases-loop
 loop-holds c = (omega arith, refl, refl)
 
 loop-again : tie.Need-loop-preserved invariant-loop decreases-loop
-loop-again c = (omega arith, simp length-set (omega arith), load-more _ _ _ _ (omega arith) (omega arith) c.before.before.loop.invariant.2)
+loop-again c = (omega arith, simp length-set (omega arith), load_more _ _ _ _ (omega arith) (omega arith) c.before.before.loop.invariant.2)
 
 returns : tie.Need-returns invariant-loop decreases-loop
-returns c = load-done _ _ _ _ c.before.loop.i c.before.before.cells-in-use.ensures (omega arith) c.before.loop.invariant.2
+returns c = load_done _ _ _ _ c.before.loop.i c.before.before.cells-in-use.ensures (omega arith) c.before.loop.invariant.2
 
 pub load_spec : {M : Type 1} → statement M
 load_spec =

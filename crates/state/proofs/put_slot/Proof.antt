@@ -1,11 +1,11 @@
 -- `state::put_slot` meets its contract. Assumes nothing.
-use Rattle.state.specs.Readings.{putSlot}
+use Rattle.state.specs.Readings.{put_slot}
 use borrow.Author.Rules.{rules}
 use Rattle.state.proofs.put_slot.Statement.{statement}
 use Rattle.state.proofs.put_slot.Tie as tie
 
 returns : tie.Need-returns
-unfolding putSlot
+unfolding put_slot
 returns c = cc
 
 pub put-slot-spec : {M : Type 1} → statement M

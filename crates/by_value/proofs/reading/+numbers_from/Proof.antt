@@ -2,8 +2,8 @@
 use native.Mathlib.Omega.{arith}
 use borrow.Author.Rules.{rules}
 use mathlib.Core.Path.{◌∙◌}
-use Rattle.cells.proofs.Stacks.{in-room, in-under}
-use Rattle.by_value.proofs.Stacks.{numbers-none, numbers_more}
+use Rattle.cells.proofs.Stacks.{in_room, in_under}
+use Rattle.by_value.proofs.Stacks.{numbers_none, numbers_more}
 use Prim.Native.Nat.{ℕ, ◌<◌}
 use borrow.Fn.Kinds.{In}
 use borrow.Fn.PlainCycle.{Measures, is, falls, and}
@@ -27,13 +27,13 @@ abbrev numbers-from-claims : ℕ → numbers-from-lts.Claims
 numbers-from-claims t = (get-cell-reads.Asked, get-cell-reads.Learnt, numbers-from-below t, numbers-from.Post)
 
 returns : (t : ℕ) → numbers-from-lts.Need-returns (numbers-from-claims t) (numbers-from-at t) numbers-from.Post
-returns t c = search (numbers-none)
+returns t c = search (numbers_none)
 
 get-cell-requires : (t : ℕ) → numbers-from-lts.Need-get-cell-requires (numbers-from-claims t) (numbers-from-at t) numbers-from.Post
-get-cell-requires t c κs = search (in-room)
+get-cell-requires t c κs = search (in_room)
 
 numbers-from-requires : (t : ℕ) → numbers-from-lts.Need-numbers-from-requires (numbers-from-claims t) (numbers-from-at t) numbers-from.Post
-numbers-from-requires t c κs = (omega arith, (omega arith, search (in-under)))
+numbers-from-requires t c κs = (omega arith, (omega arith, search (in_under)))
 
 returns-2 : (t : ℕ) → numbers-from-lts.Need-returns-2 (numbers-from-claims t) (numbers-from-at t) numbers-from.Post
 returns-2 t c = c.numbers-from.ensures ∙ search (numbers_more)

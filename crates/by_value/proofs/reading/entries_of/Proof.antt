@@ -1,6 +1,6 @@
 -- `reading::entries_of` meets its contract. The loop keeps that the first i places hold what is seen of the first i cells; the measure is how many are left. Assumes nothing.
 use Prim.Native.Nat.{◌-◌}
-use Rattle.by_value.proofs.Stacks.{ReadTo, numbers-ready, read_first, read-room, read_more, read_all}
+use Rattle.by_value.proofs.Stacks.{ReadTo, numbers_ready, read_first, read_room, read_more, read_all}
 use borrow.Author.Rules.{rules}
 use Rattle.by_value.proofs.reading.entries_of.Statement.{statement}
 use Rattle.by_value.proofs.reading.entries_of.Tie as tie
@@ -12,13 +12,13 @@ abbrev decreases-loop : tie.decreases-loop
 decreases-loop state height numbers list₀ i₀ list i = height - i
 
 numbers-from-requires : tie.Need-numbers-from-requires invariant-loop decreases-loop
-numbers-from-requires c κs = search (numbers-ready)
+numbers-from-requires c κs = search (numbers_ready)
 
 loop-holds : tie.Need-loop-init invariant-loop decreases-loop
 loop-holds c = search (read_first)
 
 entry-at-requires : tie.Need-entry-at-requires invariant-loop decreases-loop
-entry-at-requires c κs = search (read-room)
+entry-at-requires c κs = search (read_room)
 
 loop-again : tie.Need-loop-preserved invariant-loop decreases-loop
 loop-again c = search (read_more)

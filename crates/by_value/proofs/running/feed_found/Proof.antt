@@ -1,14 +1,14 @@
 -- `running::feed_found` meets its contract. Assumes nothing.
-use Rattle.by_value.proofs.Runs.{right-ready, found-refused, found_right}
+use Rattle.by_value.proofs.Runs.{right_ready, found_refused, found_right}
 use borrow.Author.Rules.{rules}
 use Rattle.by_value.proofs.running.feed_found.Statement.{statement}
 use Rattle.by_value.proofs.running.feed_found.Tie as tie
 
 feed-right-requires : tie.Need-feed-right-requires
-feed-right-requires c κs = search (right-ready)
+feed-right-requires c κs = search (right_ready)
 
 returns : tie.Need-returns
-returns c = search (found-refused)
+returns c = search (found_refused)
 
 returns-2 : tie.Need-returns-2
 returns-2 c = search (found_right)

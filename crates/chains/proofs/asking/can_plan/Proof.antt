@@ -1,17 +1,17 @@
 -- `chains::asking::can_plan` meets its contract. Assumes nothing.
-use Rattle.chains.proofs.Questions.{can-refused, can-yes, can-no}
+use Rattle.chains.proofs.Questions.{can_refused, can_yes, can_no}
 use borrow.Author.Rules.{rules}
 use Rattle.chains.proofs.asking.can_plan.Statement.{statement}
 use Rattle.chains.proofs.asking.can_plan.Tie as tie
 
 returns : tie.Need-returns
-returns c = search (can-yes)
+returns c = search (can_yes)
 
 returns-2 : tie.Need-returns-2
-returns-2 c = search (can-refused)
+returns-2 c = search (can_refused)
 
 returns-3 : tie.Need-returns-3
-returns-3 c = search (can-no)
+returns-3 c = search (can_no)
 
 pub can-plan-spec : {M : Type 1} → statement M
 can-plan-spec =

@@ -1,7 +1,7 @@
 -- `plan_within`: the planner is lent a part of the bytes that hold the stack; all other bytes stay as they are.
 use Prim.Native.Nat.{◌+◌, ◌-◌}
 use native.Mathlib.Omega.{arith}
-use Rattle.chains.proofs.Within.{planned-within}
+use Rattle.chains.proofs.Within.{planned_within}
 use borrow.Author.Rules.{rules}
 use Rattle.chains.proofs.filling.plan_within.Statement.{statement}
 use Rattle.chains.proofs.filling.plan_within.Tie as tie
@@ -31,7 +31,7 @@ returns : tie.Need-returns
 returns c =
     let s = c.before.before.before.before.before.before.before.before in
     let r = c.before.before.plan in
-    planned-within _ _ _ _ s.args.at s.args.height s.args.top.0 (s.args.at + 4096 - s.args.at) s.args.work.now _ _ r.new.1.1.1.1.1.1.1.0 r.result s.requires.inside (omega arith) r.auto.1.1.1.1.1.1.1.0
+    planned_within _ _ _ _ s.args.at s.args.height s.args.top.0 (s.args.at + 4096 - s.args.at) s.args.work.now _ _ r.new.1.1.1.1.1.1.1.0 r.result s.requires.inside (omega arith) r.auto.1.1.1.1.1.1.1.0
     c.before.before.before.before.states-into.ensures r.ensures
 
 pub plan-within-spec : {M : Type 1} → statement M

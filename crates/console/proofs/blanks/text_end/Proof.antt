@@ -3,29 +3,29 @@ use mathlib.Core.Path.{◌≡◌}
 use Prim.Native.Nat.{◌≤◌}
 use native.Mathlib.Omega.{arith}
 use lib.ListN.{length, take}
-use Rattle.console.specs.Text.{textEnd}
-use Rattle.console.proofs.Trimming.{end-begins, end-over, end-stop, end_on}
+use Rattle.console.specs.Text.{text_end}
+use Rattle.console.proofs.Trimming.{end_begins, end_over, end_stop, end_on}
 use borrow.Author.Rules.{rules}
 use Rattle.console.proofs.blanks.text_end.Statement.{statement}
 use Rattle.console.proofs.blanks.text_end.Tie as tie
 
 abbrev invariant-loop : tie.invariant-loop
-invariant-loop line end₀ end = (end ≤ length line) × (textEnd (take end line) ≡ textEnd line)
+invariant-loop line end₀ end = (end ≤ length line) × (text_end (take end line) ≡ text_end line)
 
 abbrev decreases-loop : tie.decreases-loop
 decreases-loop line end₀ end = end
 
 loop-holds : tie.Need-loop-init invariant-loop decreases-loop
-loop-holds c = (omega arith, end-begins _)
+loop-holds c = (omega arith, end_begins _)
 
 returns : tie.Need-returns invariant-loop decreases-loop
-returns c = search (end-stop)
+returns c = search (end_stop)
 
 loop-again : tie.Need-loop-preserved invariant-loop decreases-loop
 loop-again c = (omega arith, search (end_on))
 
 returns-2 : tie.Need-returns-2 invariant-loop decreases-loop
-returns-2 c = search (end-over)
+returns-2 c = search (end_over)
 
 pub text-end-spec : {M : Type 1} → statement M
 text-end-spec =

@@ -1,5 +1,5 @@
 -- `console::words::digit` meets its contract. Assumes nothing.
-use Rattle.console.proofs.Text.{decimal_digit, small-digit, capital-digit, no_digit}
+use Rattle.console.proofs.Text.{decimal_digit, small_digit, capital_digit, no_digit}
 use native.Mathlib.Omega.{arith}
 use borrow.Author.Rules.{rules}
 use Rattle.console.proofs.words.digit.Statement.{statement}
@@ -12,8 +12,8 @@ digit-spec =
     (λ c. search rules)
     (λ c. search rules)
     (λ c. decimal_digit _ (omega arith) (omega arith))
-    (λ c. capital-digit _ (omega arith) (omega arith))
-    (λ c. small-digit _ (omega arith) (omega arith))
+    (λ c. capital_digit _ (omega arith) (omega arith))
+    (λ c. small_digit _ (omega arith) (omega arith))
     (λ c. no_digit _ (λ l h. omega arith) (λ l h. omega arith) (λ l h. omega arith))
     (λ c. no_digit _ (λ l h. omega arith) (λ l h. omega arith) (λ l h. omega arith))
     (λ c. no_digit _ (λ l h. omega arith) (λ l h. omega arith) (λ l h. omega arith))

@@ -1,14 +1,14 @@
 -- `console::words::number_at` meets its contract. Assumes nothing.
-use Rattle.console.proofs.Text.{number-none, number-great, number_is}
+use Rattle.console.proofs.Text.{number_none, number_great, number_is}
 use borrow.Author.Rules.{rules}
 use Rattle.console.proofs.words.number_at.Statement.{statement}
 use Rattle.console.proofs.words.number_at.Tie as tie
 
 returns : tie.Need-returns
-returns c = search (number-none)
+returns c = search (number_none)
 
 returns-2 : tie.Need-returns-2
-returns-2 c = search (number-great)
+returns-2 c = search (number_great)
 
 returns-3 : tie.Need-returns-3
 returns-3 c = search (number_is)

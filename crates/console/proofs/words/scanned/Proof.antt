@@ -1,7 +1,7 @@
 -- `console::words::scanned` meets its contract: the loop keeps the number so far. The measure is what is left of the line. Assumes nothing.
 use Prim.Native.Nat.{◌-◌}
 use lib.ListN.{length}
-use Rattle.console.proofs.Text.{Scanned, scan_begins, scan-ends, scan-stops, scan-on}
+use Rattle.console.proofs.Text.{Scanned, scan_begins, scan_ends, scan_stops, scan_on}
 use borrow.Author.Rules.{rules}
 use Rattle.console.proofs.words.scanned.Statement.{statement}
 use Rattle.console.proofs.words.scanned.Tie as tie
@@ -16,13 +16,13 @@ loop-holds : tie.Need-loop-init invariant-loop decreases-loop
 loop-holds c = search (scan_begins)
 
 returns : tie.Need-returns invariant-loop decreases-loop
-returns c = search (scan-stops)
+returns c = search (scan_stops)
 
 loop-again : tie.Need-loop-preserved invariant-loop decreases-loop
-loop-again c = search (scan-on)
+loop-again c = search (scan_on)
 
 returns-2 : tie.Need-returns-2 invariant-loop decreases-loop
-returns-2 c = search (scan-ends)
+returns-2 c = search (scan_ends)
 
 pub scanned-spec : {M : Type 1} → statement M
 scanned-spec =

@@ -1,5 +1,5 @@
 -- `console::words::term_at` meets its contract. Assumes nothing.
-use Rattle.console.proofs.Text.{term-none, term_is, term-not}
+use Rattle.console.proofs.Text.{term_none, term_is, term_not}
 use borrow.Author.Rules.{rules}
 use Rattle.console.proofs.words.term_at.Statement.{statement}
 use Rattle.console.proofs.words.term_at.Tie as tie
@@ -8,10 +8,10 @@ returns : tie.Need-returns
 returns c = search (term_is)
 
 returns-2 : tie.Need-returns-2
-returns-2 c = search (term-none)
+returns-2 c = search (term_none)
 
 returns-3 : tie.Need-returns-3
-returns-3 c = search (term-not)
+returns-3 c = search (term_not)
 
 pub term-at-spec : {M : Type 1} → statement M
 term-at-spec =

@@ -1,11 +1,11 @@
 -- `faults::frame::classes_fault` meets its contract. Assumes nothing.
-use Rattle.faults.specs.Frame.{classesFault}
+use Rattle.faults.specs.Frame.{classes_fault}
 use borrow.Author.Rules.{rules}
 use Rattle.faults.proofs.frame.classes_fault.Statement.{statement}
 use Rattle.faults.proofs.frame.classes_fault.Tie as tie
 
 returns : tie.Need-returns
-unfolding classesFault
+unfolding classes_fault
 returns c = cc
 
 pub classes-fault-spec : {M : Type 1} → statement M

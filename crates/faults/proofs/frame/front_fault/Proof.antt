@@ -1,11 +1,11 @@
 -- `faults::frame::front_fault` meets its contract. Assumes nothing.
-use Rattle.faults.specs.Frame.{frontFault}
+use Rattle.faults.specs.Frame.{front_fault}
 use borrow.Author.Rules.{rules}
 use Rattle.faults.proofs.frame.front_fault.Statement.{statement}
 use Rattle.faults.proofs.frame.front_fault.Tie as tie
 
 returns : tie.Need-returns
-unfolding frontFault
+unfolding front_fault
 returns c = cc
 
 pub front-fault-spec : {M : Type 1} → statement M

@@ -1,11 +1,11 @@
 -- `faults::frame::head_fault` meets its contract. Assumes nothing.
-use Rattle.faults.specs.Frame.{headFault}
+use Rattle.faults.specs.Frame.{head_fault}
 use borrow.Author.Rules.{rules}
 use Rattle.faults.proofs.frame.head_fault.Statement.{statement}
 use Rattle.faults.proofs.frame.head_fault.Tie as tie
 
 returns : tie.Need-returns
-unfolding headFault
+unfolding head_fault
 returns c = cc
 
 pub head-fault-spec : {M : Type 1} → statement M

@@ -1,11 +1,11 @@
 -- `faults::frame::nonterminals_fault` meets its contract. Assumes nothing.
-use Rattle.faults.specs.Frame.{nonterminalsFault}
+use Rattle.faults.specs.Frame.{nonterminals_fault}
 use borrow.Author.Rules.{rules}
 use Rattle.faults.proofs.frame.nonterminals_fault.Statement.{statement}
 use Rattle.faults.proofs.frame.nonterminals_fault.Tie as tie
 
 returns : tie.Need-returns
-unfolding nonterminalsFault
+unfolding nonterminals_fault
 returns c = cc
 
 pub nonterminals-fault-spec : {M : Type 1} → statement M

@@ -1,11 +1,11 @@
 -- `faults::frame::states_fault` meets its contract. Assumes nothing.
-use Rattle.faults.specs.Frame.{statesFault}
+use Rattle.faults.specs.Frame.{states_fault}
 use borrow.Author.Rules.{rules}
 use Rattle.faults.proofs.frame.states_fault.Statement.{statement}
 use Rattle.faults.proofs.frame.states_fault.Tie as tie
 
 returns : tie.Need-returns
-unfolding statesFault
+unfolding states_fault
 returns c = cc
 
 pub states-fault-spec : {M : Type 1} → statement M

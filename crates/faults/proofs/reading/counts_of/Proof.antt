@@ -1,11 +1,11 @@
 -- `faults::reading::counts_of` meets its contract. Assumes nothing.
-use Rattle.meaning.specs.TableFile.{countsOf}
+use Rattle.meaning.specs.TableFile.{counts_of}
 use borrow.Author.Rules.{rules}
 use Rattle.faults.proofs.reading.counts_of.Statement.{statement}
 use Rattle.faults.proofs.reading.counts_of.Tie as tie
 
 returns : tie.Need-returns
-unfolding countsOf
+unfolding counts_of
 returns c = cc
 
 pub counts-of-spec : {M : Type 1} → statement M

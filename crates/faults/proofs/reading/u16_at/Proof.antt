@@ -1,12 +1,12 @@
 -- `faults::reading::u16_at` meets its contract. Assumes nothing.
-use Rattle.meaning.specs.Bytes.{u16At}
+use Rattle.meaning.specs.Bytes.{u16_at}
 use native.Mathlib.Omega.{arith}
 use borrow.Author.Rules.{rules}
 use Rattle.faults.proofs.reading.u16_at.Statement.{statement}
 use Rattle.faults.proofs.reading.u16_at.Tie as tie
 
 returns : tie.Need-returns
-unfolding u16At
+unfolding u16_at
 returns c = omega arith
 
 pub u16-at-spec : {M : Type 1} → statement M

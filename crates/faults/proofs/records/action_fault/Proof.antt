@@ -1,11 +1,11 @@
 -- `faults::records::action_fault` meets its contract. Assumes nothing.
-use Rattle.faults.proofs.TestLaws.{action-said}
+use Rattle.faults.proofs.TestLaws.{action_said}
 use borrow.Author.Rules.{rules}
 use Rattle.faults.proofs.records.action_fault.Statement.{statement}
 use Rattle.faults.proofs.records.action_fault.Tie as tie
 
 returns : tie.Need-returns
-returns c = search (action-said)
+returns c = search (action_said)
 
 pub action-fault-spec : {M : Type 1} → statement M
 action-fault-spec =

@@ -1,11 +1,11 @@
 -- `faults::records::goto_fault` meets its contract. Assumes nothing.
-use Rattle.faults.specs.Records.{gotoFault}
+use Rattle.faults.specs.Records.{goto_fault}
 use borrow.Author.Rules.{rules}
 use Rattle.faults.proofs.records.goto_fault.Statement.{statement}
 use Rattle.faults.proofs.records.goto_fault.Tie as tie
 
 returns : tie.Need-returns
-unfolding gotoFault
+unfolding goto_fault
 returns c = cc
 
 pub goto-fault-spec : {M : Type 1} → statement M

@@ -1,6 +1,6 @@
 -- `faults::records::gotos_fault` meets its contract. Assumes nothing.
-use Rattle.faults.proofs.LoopLaws.{gotos-end, gotos-more, gotos-bad}
-use Rattle.faults.specs.Records.{gotosFault}
+use Rattle.faults.proofs.LoopLaws.{gotos_end, gotos_more, gotos_bad}
+use Rattle.faults.specs.Records.{gotos_fault}
 use Prim.Native.Nat.{◌+◌, ◌-◌, ◌*◌, ◌≤◌, ◌<◌}
 use mathlib.Core.Path.{◌≡◌, refl}
 use native.Mathlib.Omega.{arith}
@@ -9,7 +9,7 @@ use Rattle.faults.proofs.records.gotos_fault.Statement.{statement}
 use Rattle.faults.proofs.records.gotos_fault.Tie as tie
 
 abbrev invariant-loop : tie.invariant-loop
-invariant-loop table counts from end i₀ low₀ at₀ i low at = (i ≤ at) × (gotosFault table counts end low i at ≡ gotosFault table counts end 0 0 from)
+invariant-loop table counts from end i₀ low₀ at₀ i low at = (i ≤ at) × (gotos_fault table counts end low i at ≡ gotos_fault table counts end 0 0 from)
 
 abbrev decreases-loop : tie.decreases-loop
 decreases-loop table counts from end i₀ low₀ at₀ i low at = end - at
@@ -18,13 +18,13 @@ loop-holds : tie.Need-loop-init invariant-loop decreases-loop
 loop-holds c = (omega arith, refl)
 
 loop-again : tie.Need-loop-preserved invariant-loop decreases-loop
-loop-again c = (omega arith, search (gotos-more))
+loop-again c = (omega arith, search (gotos_more))
 
 returns : tie.Need-returns invariant-loop decreases-loop
-returns c = search (gotos-bad)
+returns c = search (gotos_bad)
 
 returns-2 : tie.Need-returns-2 invariant-loop decreases-loop
-returns-2 c = search (gotos-end)
+returns-2 c = search (gotos_end)
 
 pub gotos-fault-spec : {M : Type 1} → statement M
 gotos-fault-spec =

@@ -1,11 +1,11 @@
 -- `faults::records::in_field` meets its contract. Assumes nothing.
-use Rattle.faults.specs.Records.{inField}
+use Rattle.faults.specs.Records.{in_field}
 use borrow.Author.Rules.{rules}
 use Rattle.faults.proofs.records.in_field.Statement.{statement}
 use Rattle.faults.proofs.records.in_field.Tie as tie
 
 returns : tie.Need-returns
-unfolding inField
+unfolding in_field
 returns c = cc
 
 pub in-field-spec : {M : Type 1} → statement M

@@ -1,11 +1,11 @@
 -- `faults::records::pair_fault` meets its contract. Assumes nothing.
-use Rattle.faults.specs.Records.{pairFault}
+use Rattle.faults.specs.Records.{pair_fault}
 use borrow.Author.Rules.{rules}
 use Rattle.faults.proofs.records.pair_fault.Statement.{statement}
 use Rattle.faults.proofs.records.pair_fault.Tie as tie
 
 returns : tie.Need-returns
-unfolding pairFault
+unfolding pair_fault
 returns c = cc
 
 pub pair-fault-spec : {M : Type 1} → statement M

@@ -1,5 +1,5 @@
 -- `faults::records::target_fault` meets its contract. Assumes nothing.
-use Rattle.faults.proofs.TestLaws.{target_none, target-some}
+use Rattle.faults.proofs.TestLaws.{target_none, target_some}
 use borrow.Author.Rules.{rules}
 use Rattle.faults.proofs.records.target_fault.Statement.{statement}
 use Rattle.faults.proofs.records.target_fault.Tie as tie
@@ -8,7 +8,7 @@ returns : tie.Need-returns
 returns c = search (target_none)
 
 returns-2 : tie.Need-returns-2
-returns-2 c = search (target-some)
+returns-2 c = search (target_some)
 
 pub target-fault-spec : {M : Type 1} → statement M
 target-fault-spec =

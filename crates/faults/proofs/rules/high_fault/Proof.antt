@@ -1,11 +1,11 @@
 -- `faults::rules::high_fault` meets its contract. Assumes nothing.
-use Rattle.faults.specs.Rules.{highFault}
+use Rattle.faults.specs.Rules.{high_fault}
 use borrow.Author.Rules.{rules}
 use Rattle.faults.proofs.rules.high_fault.Statement.{statement}
 use Rattle.faults.proofs.rules.high_fault.Tie as tie
 
 returns : tie.Need-returns
-unfolding highFault
+unfolding high_fault
 returns c = cc
 
 pub high-fault-spec : {M : Type 1} → statement M

@@ -1,5 +1,5 @@
 -- `faults::rules::kind_fault` meets its contract. Assumes nothing.
-use Rattle.faults.proofs.TestLaws.{kind_0, kind_1, kind_2, kind_3, kind-more}
+use Rattle.faults.proofs.TestLaws.{kind_0, kind_1, kind_2, kind_3, kind_more}
 use borrow.Author.Rules.{rules}
 use Rattle.faults.proofs.rules.kind_fault.Statement.{statement}
 use Rattle.faults.proofs.rules.kind_fault.Tie as tie
@@ -17,7 +17,7 @@ returns-4 : tie.Need-returns-4
 returns-4 c = search (kind_3)
 
 returns-5 : tie.Need-returns-5
-returns-5 c = search (kind-more)
+returns-5 c = search (kind_more)
 
 pub kind-fault-spec : {M : Type 1} → statement M
 kind-fault-spec =

@@ -1,11 +1,11 @@
 -- `faults::rules::pick_fault` meets its contract. Assumes nothing.
-use Rattle.faults.specs.Rules.{pickFault}
+use Rattle.faults.specs.Rules.{pick_fault}
 use borrow.Author.Rules.{rules}
 use Rattle.faults.proofs.rules.pick_fault.Statement.{statement}
 use Rattle.faults.proofs.rules.pick_fault.Tie as tie
 
 returns : tie.Need-returns
-unfolding pickFault
+unfolding pick_fault
 returns c = cc
 
 pub pick-fault-spec : {M : Type 1} → statement M

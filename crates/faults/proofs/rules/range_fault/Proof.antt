@@ -1,11 +1,11 @@
 -- `faults::rules::range_fault` meets its contract. Assumes nothing.
-use Rattle.faults.specs.Rules.{rangeFault}
+use Rattle.faults.specs.Rules.{range_fault}
 use borrow.Author.Rules.{rules}
 use Rattle.faults.proofs.rules.range_fault.Statement.{statement}
 use Rattle.faults.proofs.rules.range_fault.Tie as tie
 
 returns : tie.Need-returns
-unfolding rangeFault
+unfolding range_fault
 returns c = cc
 
 pub range-fault-spec : {M : Type 1} → statement M

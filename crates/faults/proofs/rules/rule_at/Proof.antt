@@ -1,11 +1,11 @@
 -- `faults::rules::rule_at` meets its contract. Assumes nothing.
-use Rattle.meaning.specs.TableFile.{ruleAt}
+use Rattle.meaning.specs.TableFile.{rule_at}
 use borrow.Author.Rules.{rules}
 use Rattle.faults.proofs.rules.rule_at.Statement.{statement}
 use Rattle.faults.proofs.rules.rule_at.Tie as tie
 
 returns : tie.Need-returns
-unfolding ruleAt
+unfolding rule_at
 returns c = cc
 
 pub rule-at-spec : {M : Type 1} → statement M

@@ -1,11 +1,11 @@
 -- `faults::rules::rule_fault` meets its contract. Assumes nothing.
-use Rattle.faults.specs.Rules.{ruleFault}
+use Rattle.faults.specs.Rules.{rule_fault}
 use borrow.Author.Rules.{rules}
 use Rattle.faults.proofs.rules.rule_fault.Statement.{statement}
 use Rattle.faults.proofs.rules.rule_fault.Tie as tie
 
 returns : tie.Need-returns
-unfolding ruleFault
+unfolding rule_fault
 returns c = cc
 
 pub rule-fault-spec : {M : Type 1} → statement M

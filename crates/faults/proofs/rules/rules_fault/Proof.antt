@@ -1,6 +1,6 @@
 -- `faults::rules::rules_fault` meets its contract. Assumes nothing.
-use Rattle.faults.proofs.LoopLaws.{rules-start, rules-end, rules-more, rules-bad}
-use Rattle.faults.specs.Rules.{rulesFault}
+use Rattle.faults.proofs.LoopLaws.{rules_start, rules_end, rules_more, rules_bad}
+use Rattle.faults.specs.Rules.{rules_fault}
 use Prim.Native.Nat.{◌+◌, ◌-◌, ◌*◌, ◌≤◌, ◌<◌}
 use mathlib.Core.Path.{◌≡◌, refl}
 use native.Mathlib.Omega.{arith}
@@ -9,22 +9,22 @@ use Rattle.faults.proofs.rules.rules_fault.Statement.{statement}
 use Rattle.faults.proofs.rules.rules_fault.Tie as tie
 
 abbrev invariant-loop : tie.invariant-loop
-invariant-loop table counts p count i₀ at₀ i at = (i ≤ count) × ((at ≡ p + 17 * i) × ((count ≡ counts.rules) × (rulesFault counts (count - i) table i at ≡ rulesFault counts count table 0 p)))
+invariant-loop table counts p count i₀ at₀ i at = (i ≤ count) × ((at ≡ p + 17 * i) × ((count ≡ counts.rules) × (rules_fault counts (count - i) table i at ≡ rules_fault counts count table 0 p)))
 
 abbrev decreases-loop : tie.decreases-loop
 decreases-loop table counts p count i₀ at₀ i at = count - i
 
 loop-holds : tie.Need-loop-init invariant-loop decreases-loop
-loop-holds c = (omega arith, (omega arith, (refl, rules-start _ _ _ _)))
+loop-holds c = (omega arith, (omega arith, (refl, rules_start _ _ _ _)))
 
 loop-again : tie.Need-loop-preserved invariant-loop decreases-loop
-loop-again c = (omega arith, (omega arith, (search rules, search (rules-more))))
+loop-again c = (omega arith, (omega arith, (search rules, search (rules_more))))
 
 returns : tie.Need-returns invariant-loop decreases-loop
-returns c = search (rules-bad)
+returns c = search (rules_bad)
 
 returns-2 : tie.Need-returns-2 invariant-loop decreases-loop
-returns-2 c = search (rules-end)
+returns-2 c = search (rules_end)
 
 pub rules-fault-spec : {M : Type 1} → statement M
 rules-fault-spec =

@@ -55,8 +55,8 @@ use denote.Exit.{yes}
 use denote.Signature.{plain}
 use Rattle.meaning.specs.declared.ErrorRecord.{ErrorRecord}
 use Rattle.lists.specs.declared.errors.Errors.{Errors}
-use Rattle.lists.specs.Filling.{noRecord, stored, filled}
-use Rattle.lists.proofs.Laws.{stored-fits, filled-one, filled-length}
+use Rattle.lists.specs.Filling.{no_record, stored, filled}
+use Rattle.lists.proofs.Laws.{stored_fits, filled_one, filled_length}
 use Rattle.meaning.specs.contracts.ErrorRecord as T
 use Rattle.meaning.proofs.ErrorRecord.TheLaws as T'
 use Rattle.lists.specs.contracts.errors.Errors as E
@@ -101,8 +101,8 @@ module _ {M : Type 1} {𝓤 : Ura M} (𝓛 : Logic 𝓤) (mem : Memory → SProp
   stores-said : (len count r : ℕ) → ent 𝓤 (ensured 𝓛 stores.ended (stores.clauses 𝓛 mem run) tt (len, (count, tt)) tt r) (fact 𝓤 (r ≡ stored 32 len count))
   stores-said len count r = ex_e 𝓤 _ (λ ws. snd∗ 𝓤 (sem 𝓛 (lasts stores.ended tt (len, (count, tt)) ws)) (fact 𝓤 (r ≡ stored 32 len count)))
 
-  at-said : (e : Errors) (i : ℕ) (r : ErrorRecord) → ent 𝓤 (ensured 𝓛 at.ended (at.clauses 𝓛 mem run) tt (e, (i, tt)) tt r) (fact 𝓤 (r ≡ get_or e.list i noRecord))
-  at-said e i r = ex_e 𝓤 _ (λ ws. snd∗ 𝓤 (sem 𝓛 (lasts at.ended tt (e, (i, tt)) ws)) (fact 𝓤 (r ≡ get_or e.list i noRecord)))
+  at-said : (e : Errors) (i : ℕ) (r : ErrorRecord) → ent 𝓤 (ensured 𝓛 at.ended (at.clauses 𝓛 mem run) tt (e, (i, tt)) tt r) (fact 𝓤 (r ≡ get_or e.list i no_record))
+  at-said e i r = ex_e 𝓤 _ (λ ws. snd∗ 𝓤 (sem 𝓛 (lasts at.ended tt (e, (i, tt)) ws)) (fact 𝓤 (r ≡ get_or e.list i no_record)))
 
 module _ {M : Type 1} {𝓤 : Ura M} (𝓛 : Logic 𝓤) (mem : Memory → SProp 𝓤) (run : Routine → Fun 𝓤) (κ : Lft) (q : Share) (b o : ℕ) (γ : GName) (ys : List ErrorRecord) (e : Errors)
     (room : Room T.the_row (length ys)) (is-e : Is E.the_row e (LL.vals E.the_type E'.the_laws e)) where
@@ -141,10 +141,10 @@ module _ {M : Type 1} {𝓤 : Ura M} (𝓛 : Logic 𝓤) (mem : Memory → SProp
   count_fits = (LL.owed E.the_type E'.the_laws e _ is-e).1.0.1
 
   n-es : n ≤ length e.list
-  n-es = omega (arith, stored-fits 32 (length ys) e.count, es-length)
+  n-es = omega (arith, stored_fits 32 (length ys) e.count, es-length)
 
   n-ys : n ≤ length ys
-  n-ys = (stored-fits 32 (length ys) e.count).0
+  n-ys = (stored_fits 32 (length ys) e.count).0
 
   n-fits : n < 2 ^ 64
   n-fits = lt_of_le_of_lt n-ys room.0
@@ -153,7 +153,7 @@ module _ {M : Type 1} {𝓤 : Ura M} (𝓛 : Logic 𝓤) (mem : Memory → SProp
   e-typed = ((LL.lawful E.the_type E'.the_laws 𝓛).typed e _ is-e).0
 
   zs-length : (i : ℕ) → i ≤ n → length (zs i) ≡ length ys
-  zs-length i l = filled-length e.list ys i (omega (arith, n-es)) (omega (arith, n-ys))
+  zs-length i l = filled_length e.list ys i (omega (arith, n-es)) (omega (arith, n-ys))
 
   abbrev Post : Val → SProp 𝓤
   Post = (walk_of 𝓛 f.ended stayed (f.clauses 𝓛 mem run)).post (((κ, tt), (q, tt), tt, a, vals), tt)
@@ -247,18 +247,18 @@ module _ {M : Type 1} {𝓤 : Ura M} (𝓛 : Logic 𝓤) (mem : Memory → SProp
           use0 𝓛 (raw ((AtOf 𝓛 mem run).pre (to_at i.0))) (goes_at i.0 (at-32 less)) $
           calls_at ! fm (AtOf 𝓛 mem run) known_at_lem (to_at i.0) (and_then ! (load ! (from ! (stop !)) (look ! 9 refl)) (and_then ! (load ! (from ! (stop !)) (look ! 7 refl)) (no_more !))) (λ w.
           use1 𝓛 (later (some (λ (r : ErrorRecord). (‵ ftrue ⊛ ‵ ((T.the_row).own_val r (w ∷ []))) ⊛ raw (ensured 𝓛 at.ended (at.clauses 𝓛 mem run) tt (e, (i.0, tt)) tt r)))) (id⊢ 𝓤 _) $ await ! tt $ pick ! (λ r.
-          split ! $ move ! (1 ∷ []) $ use1 𝓛 (raw (fact 𝓤 (r ≡ get_or e.list i.0 noRecord))) (at-said 𝓛 mem run e i.0 r) $ heard ! (r ≡ get_or e.list i.0 noRecord) (λ is-r. split ! $ drop ! $
+          split ! $ move ! (1 ∷ []) $ use1 𝓛 (raw (fact 𝓤 (r ≡ get_or e.list i.0 no_record))) (at-said 𝓛 mem run e i.0 r) $ heard ! (r ≡ get_or e.list i.0 no_record) (λ is-r. split ! $ drop ! $
           peeks ! T.the_row (Is T.the_row) (shows 𝓛 T.the_row) r (w ∷ []) (λ is.
           -- [what r owns; the row; _9; …]
           land ! (from ! (stop !)) (init ! 4 refl (typed r w is)) $
           assigns ! (bin ! (load ! (from ! (stop !)) (look ! 7 refl)) (lit ! tt) (record { fits = eight less })) (from ! (stop !)) (init ! 3 refl (tt, record { fits = eight less })) $
           assigns ! (bin ! (load ! (from ! (fld ! refl (stop !))) (look_in ! 10 (sub ! 0 refl (whole !)))) (load ! (from ! (stop !)) (look ! 3 refl)) tt) (from ! (stop !)) (init ! 2 refl (tt, tt)) $
           rewrite ! 2 (λ (p : ℕ). ‵ (fat full_share pointer l₉ 0 (vptr b p))) (sym (place_is 8 o i.0)) refl $
-          move ! (1 ∷ []) $ elem_out ! T.the_row (Is T.the_row) (shows 𝓛 T.the_row) (LL.vals T.the_type T'.the_laws) (LL.tells T.the_type T'.the_laws) full_share (zs i.0) i.0 noRecord b o (within less) (λ _.
+          move ! (1 ∷ []) $ elem_out ! T.the_row (Is T.the_row) (shows 𝓛 T.the_row) (LL.vals T.the_type T'.the_laws) (LL.tells T.the_type T'.the_laws) full_share (zs i.0) i.0 no_record b o (within less) (λ _.
           -- [out[i]; what it owns; the others; what r owns; _9; _8; _7; …]
           assigns ! (of_opd ! (load ! (from ! (stop !)) (look ! 6 refl))) (from ! (hop ! (look ! 4 refl) (stop !))) (store_raw ! 0 refl (typed r w is)) $
           move ! (1 ∷ []) $ drop ! $ move ! (0 ∷ 2 ∷ 1 ∷ []) $ elem_put ! T.the_row full_share (zs i.0) i.0 r (w ∷ []) b o (within less) $
-          rewrite ! 0 (λ (l : List ErrorRecord). ‵ (row T.the_row full_share l b o)) (ap (set (zs i.0) i.0) is-r ∙ filled-one e.list ys i.0 noRecord (in-es less) (in_ys less)) refl $
+          rewrite ! 0 (λ (l : List ErrorRecord). ‵ (row T.the_row full_share l b o)) (ap (set (zs i.0) i.0) is-r ∙ filled_one e.list ys i.0 no_record (in-es less) (in_ys less)) refl $
           assigns_last ! (bin ! (load ! (from ! (stop !)) (look ! 6 refl)) (lit ! tt) (record { fits = fits (next less) })) (from ! (stop !)) (store ! 6 refl (tt, record { fits = fits (next less) })) $
           forget ! 1 refl $ forget ! 2 refl $ forget ! 3 refl $ forget ! 4 refl $ again ! Nearer At i (next less) (add-one-dec n i.0 (ltb→lt i.0 n less))))))))
           (λ over. jumps ! $ exec ! C Λ En code.Mir.t-5 (at_ret En Post) $

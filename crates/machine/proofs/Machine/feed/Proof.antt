@@ -59,7 +59,7 @@ use Rattle.lists.proofs.errors.fill.Symbol.{name as #fill}
 use Rattle.lists.proofs.errors.fill.Met as fill-thm
 use Rattle.by_value.specs.Feeding.{RunPromise}
 use Rattle.by_value.specs.declared.running.FeedRun.{FeedRun}
-use Rattle.by_value.proofs.Feeds.{feed-filled}
+use Rattle.by_value.proofs.Feeds.{feed_filled}
 use Rattle.by_value.specs.contracts.running.FeedRun as I
 use Rattle.by_value.proofs.running.FeedRun.TheLaws as I'
 use Rattle.by_value.specs.contracts.running.feed_of as inner
@@ -122,7 +122,7 @@ module _ {M : Type 1} {𝓤 : Ura M} (𝓛 : Logic 𝓤) (mem : Memory → SProp
       → ent 𝓤 (⋆ 𝓛 (Tokens ∷ (‵ (flft κ₃ q₃) ⊛ ‵ ftrue) ∷ ‵ ((ShrSlice (named 0) κ₀ u8).own_val tb (shr_slice_vals tb)) ∷ ‵ (finally u8 st.name s') ∷ ‵ (finally u8 wk.name w') ∷ ‵ (finally T.the_row er.name e') ∷ [])) (Post (EL.val F.the_type F'.the_laws r.answer))
   exits r s' w' n e' is_f i g ls lw le =
       qed 𝓛 (Tokens ∷ (‵ (flft κ₃ q₃) ⊛ ‵ ftrue) ∷ ‵ ((ShrSlice (named 0) κ₀ u8).own_val tb (shr_slice_vals tb)) ∷ ‵ (finally u8 st.name s') ∷ ‵ (finally u8 wk.name w') ∷ ‵ (finally T.the_row er.name e') ∷ []) ∵
-      suffices ! _ (ends_at 𝓛 f.ended stayed (f.clauses 𝓛 mem run) (((κ₀, (κ₁, (κ₂, (κ₃, tt)))), (q₀, (q₁, (q₂, (q₃, tt)))), tt, a, vals), tt) _ r.answer (tt, (s', (w', (tt, (e', tt))))) (tt, (ls, (lw, (tt, (le, tt)))))) $ says ! (feed-filled tb.now st.now wk.now t er.now r s' w' i n e' g.0 g.1) $
+      suffices ! _ (ends_at 𝓛 f.ended stayed (f.clauses 𝓛 mem run) (((κ₀, (κ₁, (κ₂, (κ₃, tt)))), (q₀, (q₁, (q₂, (q₃, tt)))), tt, a, vals), tt) _ r.answer (tt, (s', (w', (tt, (e', tt))))) (tt, (ls, (lw, (tt, (le, tt)))))) $ says ! (feed_filled tb.now st.now wk.now t er.now r s' w' i n e' g.0 g.1) $
       -- the tokens, in the signature's order
       split ! $ move ! (1 ∷ []) $ split ! $ move ! (1 ∷ []) $ split ! $ move ! (0 ∷ 4 ∷ []) $ join ! $ move ! (2 ∷ 0 ∷ []) $ join ! $ move ! (2 ∷ 0 ∷ []) $ join ! $ frame ! $
       -- [true; tb; st; wk; er]: what is had of the parameters

@@ -55,11 +55,11 @@ use Rattle.lists.specs.contracts.entries.fill as fill
 use Rattle.lists.proofs.entries.fill.Symbol as fill-def
 use Rattle.lists.proofs.entries.fill.Symbol.{name as #fill}
 use Rattle.lists.proofs.entries.fill.Met as fill-thm
-use Rattle.promises.specs.Buffers.{listsRight}
-use Rattle.promises.specs.Calls.{stackOn}
+use Rattle.promises.specs.Buffers.{lists_right}
+use Rattle.promises.specs.Calls.{stack_on}
 use Rattle.by_value.specs.Reading.{ReadPromise}
 use Rattle.by_value.specs.declared.reading.StackRead.{StackRead}
-use Rattle.by_value.proofs.Stacks.{stack-filled}
+use Rattle.by_value.proofs.Stacks.{stack_filled}
 use Rattle.by_value.specs.contracts.reading.StackRead as I
 use Rattle.by_value.proofs.reading.StackRead.TheLaws as I'
 use Rattle.by_value.specs.contracts.reading.stack_of as inner
@@ -107,7 +107,7 @@ module _ {M : Type 1} {𝓤 : Ura M} (𝓛 : Logic 𝓤) (mem : Memory → SProp
 
   -- what `stack_of` and `fill` ensure, of the last list
   abbrev InnerSays : StackRead → Type 0
-  InnerSays r = ReadPromise (stackOn (listsRight st.now len) tb.now st.now number) r
+  InnerSays r = ReadPromise (stack_on (lists_right st.now len) tb.now st.now number) r
 
   abbrev FillSays : Entries → ℕ → List Entry → Type 0
   FillSays e n e' = (n ≡ stored 64 len e.count) × (e' ≡ filled e.list en.now n)
@@ -134,7 +134,7 @@ module _ {M : Type 1} {𝓤 : Ura M} (𝓛 : Logic 𝓤) (mem : Memory → SProp
   exits : (r : StackRead) (n : ℕ) (e' : List Entry) → Is F.the_row r.answer (EL.vals F.the_type F'.the_laws r.answer) → InnerSays r → FillSays r.entries n e' → length e' ≡ len → ent 𝓤 (⋆ 𝓛 (Left e')) (Post (EL.val F.the_type F'.the_laws r.answer))
   exits r n e' is_f i g le =
       qed 𝓛 (Left e') ∵
-      suffices ! _ (ends_at 𝓛 f.ended stayed (f.clauses 𝓛 mem run) (((κ₀, (κ₁, (κ₂, tt))), (q₀, (q₁, (q₂, tt))), tt, a, vals), tt) _ r.answer (tt, (tt, (tt, (e', tt)))) (tt, (tt, (tt, (le, tt))))) $ says ! (stack-filled tb.now st.now number en.now r i n e' g.0 g.1) $
+      suffices ! _ (ends_at 𝓛 f.ended stayed (f.clauses 𝓛 mem run) (((κ₀, (κ₁, (κ₂, tt))), (q₀, (q₁, (q₂, tt))), tt, a, vals), tt) _ r.answer (tt, (tt, (tt, (e', tt)))) (tt, (tt, (tt, (le, tt))))) $ says ! (stack_filled tb.now st.now number en.now r i n e' g.0 g.1) $
       -- the tokens, in the signature's order
       split ! $ move ! (1 ∷ []) $ split ! $ move ! (0 ∷ 3 ∷ []) $ join ! $ move ! (2 ∷ 0 ∷ []) $ join ! $ frame ! $
       -- [true; table; state; the list]: what is had of the parameters

@@ -1,5 +1,5 @@
 -- `asking::can_end` meets its contract. Assumes nothing.
-use Rattle.machine.proofs.Asks.{asks-state, end_refused, end-right}
+use Rattle.machine.proofs.Asks.{asks_state, end_refused, end_right}
 use borrow.Author.Rules.{rules}
 use Rattle.machine.proofs.asking.can_end.Statement.{statement}
 use Rattle.machine.proofs.asking.can_end.Tie as tie
@@ -8,7 +8,7 @@ returns : tie.Need-returns
 returns c = search (end_refused)
 
 returns-2 : tie.Need-returns-2
-returns-2 c = search (end-right)
+returns-2 c = search (end_right)
 
 pub can-end-spec : {M : Type 1} → statement M
 can-end-spec =
@@ -17,7 +17,7 @@ can-end-spec =
     (λ c κs. search rules)
     (λ c. search rules)
     (λ c. search rules)
-    (λ c κs. search (asks-state))
+    (λ c κs. search (asks_state))
     returns
     (λ c. search rules)
     returns-2)

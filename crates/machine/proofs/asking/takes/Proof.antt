@@ -1,17 +1,17 @@
 -- `asking::takes` meets its contract. Assumes nothing.
-use Rattle.machine.proofs.Asks.{asks-state, takes-refused, takes-right}
+use Rattle.machine.proofs.Asks.{asks_state, takes_refused, takes_right_lem}
 use borrow.Author.Rules.{rules}
 use Rattle.machine.proofs.asking.takes.Statement.{statement}
 use Rattle.machine.proofs.asking.takes.Tie as tie
 
 takes-right-requires : tie.Need-takes-right-requires
-takes-right-requires c κs = search (asks-state)
+takes-right-requires c κs = search (asks_state)
 
 returns : tie.Need-returns
-returns c = search (takes-refused)
+returns c = search (takes_refused)
 
 returns-2 : tie.Need-returns-2
-returns-2 c = search (takes-right)
+returns-2 c = search (takes_right_lem)
 
 pub takes-spec : {M : Type 1} → statement M
 takes-spec =

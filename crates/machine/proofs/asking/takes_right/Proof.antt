@@ -1,21 +1,21 @@
 -- `asking::takes_right` meets its contract. Assumes nothing.
 use mathlib.Core.Path.{◌∙◌}
-use Rattle.machine.proofs.Asks.{takes-consumed, takes_low, takes-high, takes-asked}
+use Rattle.machine.proofs.Asks.{takes_consumed, takes_low, takes_high, takes_asked}
 use borrow.Author.Rules.{rules}
 use Rattle.machine.proofs.asking.takes_right.Statement.{statement}
 use Rattle.machine.proofs.asking.takes_right.Tie as tie
 
 returns : tie.Need-returns
-returns c = search (takes-consumed)
+returns c = search (takes_consumed)
 
 returns-2 : tie.Need-returns-2
 returns-2 c = search (takes_low)
 
 returns-3 : tie.Need-returns-3
-returns-3 c = search (takes-high)
+returns-3 c = search (takes_high)
 
 returns-4 : tie.Need-returns-4
-returns-4 c = c.before.before.takes.ensures ∙ search (takes-asked)
+returns-4 c = c.before.before.takes.ensures ∙ search (takes_asked)
 
 pub takes-right-spec : {M : Type 1} → statement M
 takes-right-spec =

@@ -1,15 +1,15 @@
 -- `starting::start_line` meets its contract. Assumes nothing.
-use Rattle.table.proofs.Checking.{belongs-of}
-use Rattle.machine.proofs.Starts.{start-wrong, start_right}
+use Rattle.table.proofs.Checking.{belongs_of}
+use Rattle.machine.proofs.Starts.{start_wrong, start_right}
 use borrow.Author.Rules.{rules}
 use Rattle.machine.proofs.starting.start_line.Statement.{statement}
 use Rattle.machine.proofs.starting.start_line.Tie as tie
 
 action-of-requires : tie.Need-action-of-requires
-action-of-requires c κs = search (belongs-of)
+action-of-requires c κs = search (belongs_of)
 
 returns : tie.Need-returns
-returns c = search (start-wrong)
+returns c = search (start_wrong)
 
 returns-2 : tie.Need-returns-2
 returns-2 c = search (start_right)

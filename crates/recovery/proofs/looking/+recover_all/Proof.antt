@@ -4,7 +4,7 @@ use borrow.Author.Rules.{rules}
 use Prim.Native.Nat.{ℕ, ◌<◌}
 use borrow.Fn.Kinds.{In}
 use borrow.Fn.PlainCycle.{Measures, is, falls, and}
-use Rattle.recovery.proofs.LookingAll.{all_none, first-in, first-pops, ready-one, all-stopped, all-came, Passed, ready-behind, all-behind}
+use Rattle.recovery.proofs.LookingAll.{all_none, first_in, first_pops, ready_one, all_stopped, all_came, Passed, ready_behind, all_behind}
 use Rattle.recovery.proofs.looking.recover_all.Reads as recover-all
 use Rattle.recovery.proofs.looking.recover_all.Kinds as recover-all-kinds
 use Rattle.recovery.proofs.looking.+recover_all.Lts-recover_all as recover-all-lts
@@ -41,10 +41,10 @@ returns : (t : ℕ) → recover-all-lts.Need-returns (recover-all-claims t) (rec
 returns t c = search (all_none)
 
 top-of-requires : (t : ℕ) → recover-all-lts.Need-top-of-requires (recover-all-claims t) (recover-all-at t) recover-all.Post
-top-of-requires t c κs = search (first-in)
+top-of-requires t c κs = search (first_in)
 
 empty-term-requires : (t : ℕ) → recover-all-lts.Need-empty-term-requires (recover-all-claims t) (recover-all-at t) recover-all.Post
-empty-term-requires t c κs = search (first-pops)
+empty-term-requires t c κs = search (first_pops)
 
 add-t17 : (t : ℕ) → recover-all-lts.Need-overflow-add-t17 (recover-all-claims t) (recover-all-at t) recover-all.Post
 add-t17 t c = omega arith
@@ -53,7 +53,7 @@ sub-t18 : (t : ℕ) → recover-all-lts.Need-overflow-sub-t18 (recover-all-claim
 sub-t18 t c = omega arith
 
 recover-one-requires : (t : ℕ) → recover-all-lts.Need-recover-one-requires (recover-all-claims t) (recover-all-at t) recover-all.Post
-recover-one-requires t c κs = search (ready-one)
+recover-one-requires t c κs = search (ready_one)
 
 -- what is known where the reading has come to something
 abbrev begun : (t : ℕ) → recover-all-lts.After-known-told2 (recover-all-claims t) (recover-all-at t) recover-all.Post → recover-all-lts.Start (recover-all-claims t) (recover-all-at t) recover-all.Post
@@ -65,16 +65,16 @@ passed-at t c =
     Passed a.table.now a.view a.state.now a.work.now a.i a.count a.so c.before.before.before.before.before.recover-one.new.1.1.1.0 c.before.one2.given.0.0
 
 passed : (t : ℕ) (c : recover-all-lts.After-known-told2 (recover-all-claims t) (recover-all-at t) recover-all.Post) → passed-at t c
-passed t c = search (all-came)
+passed t c = search (all_came)
 
 recover-all-requires : (t : ℕ) → recover-all-lts.Need-recover-all-requires (recover-all-claims t) (recover-all-at t) recover-all.Post
-recover-all-requires t c κs = (omega arith, ready-behind _ _ _ _ _ _ _ _ _ (passed t c.before))
+recover-all-requires t c κs = (omega arith, ready_behind _ _ _ _ _ _ _ _ _ (passed t c.before))
 
 returns-2 : (t : ℕ) → recover-all-lts.Need-returns-2 (recover-all-claims t) (recover-all-at t) recover-all.Post
-returns-2 t c = search (all-stopped)
+returns-2 t c = search (all_stopped)
 
 returns-3 : (t : ℕ) → recover-all-lts.Need-returns-3 (recover-all-claims t) (recover-all-at t) recover-all.Post
-returns-3 t c = all-behind _ _ _ _ _ _ _ _ _ (passed t c.before.before.before.before) c.before.before.recover-all.new.1.1.1.0 c.before.before.recover-all.result c.before.before.recover-all.ensures
+returns-3 t c = all_behind _ _ _ _ _ _ _ _ _ (passed t c.before.before.before.before) c.before.before.recover-all.new.1.1.1.0 c.before.before.recover-all.result c.before.before.recover-all.ensures
 
 pub +recover-all-spec : {M : Type 1} → statement M
 +recover-all-spec = close μ-recover-all λ t. recover-all-lts.spec (recover-all-claims t)

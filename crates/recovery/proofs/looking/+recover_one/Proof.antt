@@ -6,7 +6,7 @@ use Prim.Native.Nat.{ℕ, ◌<◌}
 use Rattle.actions.specs.declared.Top.{Top}
 use borrow.Fn.Kinds.{In}
 use borrow.Fn.PlainCycle.{Measures, is, falls, and}
-use Rattle.recovery.proofs.LookingOne.{one_none, one-held, ready_held, ready-take, one-refused, one-took, one-not, Left, pops-left, ready-rest, one_left}
+use Rattle.recovery.proofs.LookingOne.{one_none, one_held, ready_held, ready_take, one_refused, one_took, one_not, Left, pops_left, ready_rest, one_left}
 use Rattle.recovery.proofs.looking.recover_one.Reads as recover-one
 use Rattle.recovery.proofs.looking.recover_one.Kinds as recover-one-kinds
 use Rattle.recovery.proofs.looking.+recover_one.Lts-recover_one as recover-one-lts
@@ -49,10 +49,10 @@ held-requires : (t : ℕ) → recover-one-lts.Need-held-requires (recover-one-cl
 held-requires t c κs = search (ready_held)
 
 returns-2 : (t : ℕ) → recover-one-lts.Need-returns-2 (recover-one-claims t) (recover-one-at t) recover-one.Post
-returns-2 t c = search (one-held)
+returns-2 t c = search (one_held)
 
 take-reading-requires : (t : ℕ) → recover-one-lts.Need-take-reading-requires (recover-one-claims t) (recover-one-at t) recover-one.Post
-take-reading-requires t c κs = search (ready-take)
+take-reading-requires t c κs = search (ready_take)
 
 -- what is known where the reading could not be planned
 abbrev begun : (t : ℕ) → recover-one-lts.After-known-told3 (recover-one-claims t) (recover-one-at t) recover-one.Post → recover-one-lts.Start (recover-one-claims t) (recover-one-at t) recover-one.Post
@@ -64,13 +64,13 @@ left_at t c =
     Left a.table.now a.view a.state.now a.work.now a.waiting a.term a.reading a.so c.before.before.before.before.before.take-reading.new.1.1.0 c.before.taken3.given.0.0
 
 left : (t : ℕ) (c : recover-one-lts.After-known-told3 (recover-one-claims t) (recover-one-at t) recover-one.Post) → left_at t c
-left t c = search (one-not)
+left t c = search (one_not)
 
 longer-term-requires : (t : ℕ) → recover-one-lts.Need-longer-term-requires (recover-one-claims t) (recover-one-at t) recover-one.Post
-longer-term-requires t c κs = pops-left _ _ _ _ _ _ _ _ _ _ (left t c.before)
+longer-term-requires t c κs = pops_left _ _ _ _ _ _ _ _ _ _ (left t c.before)
 
 below-top-requires : (t : ℕ) → recover-one-lts.Need-below-top-requires (recover-one-claims t) (recover-one-at t) recover-one.Post
-below-top-requires t c κs = pops-left _ _ _ _ _ _ _ _ _ _ (left t c.before.before.before)
+below-top-requires t c κs = pops_left _ _ _ _ _ _ _ _ _ _ (left t c.before.before.before)
 
 recover-one-requires : (t : ℕ) → recover-one-lts.Need-recover-one-requires (recover-one-claims t) (recover-one-at t) recover-one.Post
 recover-one-requires t c κs =
@@ -79,13 +79,13 @@ recover-one-requires t c κs =
     let lower = c.before.below_top.ensures in
     let height = ap (λ (r : Top). r.height) lower in
     let is = (begun t c.before.before.before.before.before).pre.0 in
-    (omega (arith, some, height, is), ready-rest _ _ _ _ _ _ _ _ _ _ k _ c.before.before.before.longer-term.ensures _ lower)
+    (omega (arith, some, height, is), ready_rest _ _ _ _ _ _ _ _ _ _ k _ c.before.before.before.longer-term.ensures _ lower)
 
 returns-3 : (t : ℕ) → recover-one-lts.Need-returns-3 (recover-one-claims t) (recover-one-at t) recover-one.Post
-returns-3 t c = search (one-refused)
+returns-3 t c = search (one_refused)
 
 returns-4 : (t : ℕ) → recover-one-lts.Need-returns-4 (recover-one-claims t) (recover-one-at t) recover-one.Post
-returns-4 t c = search (one-took)
+returns-4 t c = search (one_took)
 
 returns-5 : (t : ℕ) → recover-one-lts.Need-returns-5 (recover-one-claims t) (recover-one-at t) recover-one.Post
 returns-5 t c =

@@ -2,7 +2,7 @@
 use native.Mathlib.Omega.{arith}
 use borrow.Author.Rules.{rules}
 use mathlib.Core.Path.{◌∙◌}
-use Rattle.state.proofs.Checking.{slots-none, slots-bad, slots-good, ready-first, ready-rest}
+use Rattle.state.proofs.Checking.{slots_none, slots_bad, slots_good, ready_first, ready_rest}
 use Prim.Native.Nat.{ℕ, ◌<◌}
 use borrow.Fn.Kinds.{In}
 use borrow.Fn.PlainCycle.{Measures, is, falls, and}
@@ -28,22 +28,22 @@ abbrev slots-right-claims : ℕ → slots-right-lts.Claims
 slots-right-claims t = (slot-right-reads.Asked, slot-right-reads.Learnt, slots-right-below t, slots-right.Post)
 
 returns : (t : ℕ) → slots-right-lts.Need-returns (slots-right-claims t) (slots-right-at t) slots-right.Post
-returns t c = search (slots-none)
+returns t c = search (slots_none)
 
 slot-right-requires : (t : ℕ) → slots-right-lts.Need-slot-right-requires (slots-right-claims t) (slots-right-at t) slots-right.Post
-slot-right-requires t c κs = search (ready-first)
+slot-right-requires t c κs = search (ready_first)
 
 add-slots-right : (t : ℕ) → slots-right-lts.Need-overflow-add-slots-right (slots-right-claims t) (slots-right-at t) slots-right.Post
 add-slots-right t c = omega arith
 
 slots-right-requires : (t : ℕ) → slots-right-lts.Need-slots-right-requires (slots-right-claims t) (slots-right-at t) slots-right.Post
-slots-right-requires t c κs = (omega arith, search (ready-rest))
+slots-right-requires t c κs = (omega arith, search (ready_rest))
 
 returns-2 : (t : ℕ) → slots-right-lts.Need-returns-2 (slots-right-claims t) (slots-right-at t) slots-right.Post
-returns-2 t c = c.slots-right.ensures ∙ search (slots-good)
+returns-2 t c = c.slots-right.ensures ∙ search (slots_good)
 
 returns-3 : (t : ℕ) → slots-right-lts.Need-returns-3 (slots-right-claims t) (slots-right-at t) slots-right.Post
-returns-3 t c = search (slots-bad)
+returns-3 t c = search (slots_bad)
 
 pub +slots-right-spec : {M : Type 1} → statement M
 +slots-right-spec = close μ-slots-right λ t. slots-right-lts.spec (slots-right-claims t) (slots-right-at t) slots-right.Post (returns t) (slot-right-requires t) (add-slots-right t) (λ c. search rules) (slots-right-requires t) (returns-2 t) (returns-3 t)

@@ -1,19 +1,19 @@
 -- `table_sweep::sweep::is_right` meets its contract, by what the check's answer says of the table. Assumes nothing.
 use Rattle.std.proofs.Common.{◌≡◌, ℕ, true, false, List, sym, rules}
-use Rattle.meaning.specs.TableRight.{tableOk}
+use Rattle.meaning.specs.TableRight.{table_ok}
 use Rattle.meaning.specs.declared.View.{View}
-use Rattle.table.specs.Answers.{checkOf}
+use Rattle.table.specs.Answers.{check_of}
 use Rattle.table.specs.declared.Checked.{Checked}
 use Rattle.table.specs.declared.Checked.TheVariants.{Wrong, Right}
-use Rattle.table.proofs.Checking.{belongs-of, wrong-of}
+use Rattle.table.proofs.Checking.{belongs_of, wrong_of}
 use Rattle.table_sweep.proofs.sweep.is_right.Statement.{statement}
 use Rattle.table_sweep.proofs.sweep.is_right.Tie as tie
 
-right_of : (s : List ℕ) (v : View) (r : Checked) → r ≡ checkOf s → r ≡ Right v → true ≡ tableOk s
-right_of s v r e f = sym (belongs-of s v r e f).ok
+right_of : (s : List ℕ) (v : View) (r : Checked) → r ≡ check_of s → r ≡ Right v → true ≡ table_ok s
+right_of s v r e f = sym (belongs_of s v r e f).ok
 
-not-right-of : (s : List ℕ) (r : Checked) → r ≡ checkOf s → r ≡ Wrong → false ≡ tableOk s
-not-right-of s r e f = sym (wrong-of s r e f)
+not-right-of : (s : List ℕ) (r : Checked) → r ≡ check_of s → r ≡ Wrong → false ≡ table_ok s
+not-right-of s r e f = sym (wrong_of s r e f)
 
 returns : tie.Need-returns
 returns c = search (right_of)
