@@ -1,4 +1,6 @@
 // The steps of applying, over the work area: one reduction with its action, one shift. Each appends what it gives birth to.
+#![tactic(auto)]
+
 ghost use Rattle.std.specs.Prelude.{◌≡◌, ◌≤◌};
 ghost use Rattle.meaning.specs.Limits.{max_height};
 ghost use Rattle.meaning.specs.TableFile.{table_of, goto_of, target};
@@ -18,7 +20,7 @@ mod kinds;
 mod popping;
 
 // How many cells, results and error records there are.
-#[derive(Drop)]
+#[derive(Clone, Copy)]
 pub struct Counts {
     pub cells: u16,
     pub results: u16,
@@ -26,7 +28,7 @@ pub struct Counts {
 }
 
 // A reading in the work area: its top cell, its height, its mark.
-#[derive(Drop)]
+#[derive(Clone, Copy)]
 pub struct Top {
     pub cell: CellNo,
     pub height: u16,
@@ -34,7 +36,7 @@ pub struct Top {
 }
 
 // What a reduction comes to: a higher reading, or a refused action.
-#[derive(Drop)]
+#[derive(Clone, Copy)]
 pub enum Step {
     Reduced { top: Top, counts: Counts },
     Refused { counts: Counts },

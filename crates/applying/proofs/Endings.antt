@@ -4,7 +4,8 @@ use native.Mathlib.Omega.{arith}
 use mathlib.Core.Path.{◌≡◌, sym, ap, subst}
 use mathlib.Core.Bool.{Bool, true, false}
 use mathlib.Core.List.{List}
-use Rattle.meaning.specs.Basics.{if◌then◌else◌, Maybe, nothing, just}
+use Rattle.meaning.specs.Basics.{Maybe, nothing, just}
+use Rattle.std.specs.Prelude.{if◌then◌else◌}
 use Rattle.meaning.specs.declared.Term.{Term}
 use Rattle.table.specs.declared.Action.{Action}
 use Rattle.chains.specs.Actions.{shift_of}

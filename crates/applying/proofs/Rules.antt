@@ -7,7 +7,8 @@ use mathlib.Core.List.{List, ◌∷◌}
 use lib.Dec.{ltb}
 use lib.ListN.{length, get_or, drop}
 use borrow.Author.Tests.{lt-ltb}
-use Rattle.meaning.specs.Basics.{if◌then◌else◌, Maybe, nothing, just}
+use Rattle.meaning.specs.Basics.{Maybe, nothing, just}
+use Rattle.std.specs.Prelude.{if◌then◌else◌}
 use Rattle.meaning.specs.Readings.{Reading, states}
 use Rattle.meaning.specs.TableFile.{Table, table_of, rule_of}
 use Rattle.meaning.specs.Walk.{shift, ends}

@@ -1,4 +1,6 @@
 // Applying: the planned chains of one reading are followed once more by the planner's marks, with actions. Dead ends are passed over.
+#![tactic(auto)]
+
 ghost use Rattle.std.specs.Prelude.{◌≡◌, ◌<◌, length};
 ghost use Rattle.meaning.specs.Limits.{max_walked};
 ghost use Rattle.meaning.specs.Readings.{states};
@@ -16,7 +18,7 @@ use meaning::{Term, View};
 use table::Action;
 
 // What is applied: under the table's view, a term, with the results appended to the list that begins at `list`.
-#[derive(Drop)]
+#[derive(Clone, Copy)]
 struct Ask {
     view: View,
     list: usize,
@@ -24,7 +26,7 @@ struct Ask {
 }
 
 // What is left of a state's rule list: its rules from the one numbered `next` on, whose marks begin at the one numbered `at`.
-#[derive(Drop)]
+#[derive(Clone, Copy)]
 struct Rest {
     action: Action,
     next: usize,

@@ -1,5 +1,7 @@
 // Applies the terms of short lines, each to the first reading that the term before it left, and says what comes about.
 // The tables: T1 and T4 of the known runs; `twice`, T1 with rule 0 twice in one record; `join`, T1 with a Join that is too big as rule 2; `wrap`, T1 with the greatest mark in rule 3.
+#![tactic(auto)]
+
 ghost use Rattle.std.specs.Prelude.{◌≡◌, true, length};
 ghost use Rattle.table.specs.Answers.{Belongs};
 ghost use Rattle.state.specs.Layout.{work_len};

@@ -1,7 +1,8 @@
 -- What the measured calls answer and leave.
 use Rattle.std.specs.Prelude.{◌≡◌, Bool, List, ℕ, eqb, leb, length}
 use Rattle.meaning.specs.Answers.{startNumber, feedNumbers}
-use Rattle.meaning.specs.Basics.{if◌then◌else◌, Maybe, nothing, just}
+use Rattle.meaning.specs.Basics.{Maybe, nothing, just}
+use Rattle.std.specs.Prelude.{if◌then◌else◌}
 use Rattle.meaning.specs.Limits.{max_errors}
 use Rattle.meaning.specs.TableFile.{table_of, action_of, goto_of, target}
 use Rattle.meaning.specs.TableRight.{table_ok}

@@ -1,4 +1,6 @@
 // What tools/bench and tools/compare measure from Rust: the check of a table file alone and with one lookup behind it, a start, a feed, and a feed's parts.
+#![tactic(auto)]
+
 ghost use Rattle.std.specs.Prelude.{◌≡◌, length};
 ghost use Rattle.meaning.specs.TableFile.{table_of, action_of, goto_of, target};
 ghost use Rattle.meaning.specs.TableRight.{table_ok};

@@ -8,7 +8,8 @@ use mathlib.Core.List.{List, [], map}
 use Prim.Native.Nat.{ℕ}
 use lib.Dec.{leb}
 use lib.ListN.{length, get_or, length-map}
-use Rattle.meaning.specs.Basics.{if◌then◌else◌, nothing, just, isNil}
+use Rattle.meaning.specs.Basics.{nothing, just, isNil}
+use Rattle.std.specs.Prelude.{if◌then◌else◌}
 use Rattle.meaning.specs.Calls.{State, check_state, checked, written, wrong_term, FeedCall, feed_refused, feed_ended, feed_right, feed_call, StackCall, no_reading, stack_refused, stack_read, stack_right, stack_call}
 use Rattle.meaning.specs.Feeding.{feed}
 use Rattle.meaning.specs.Outcome.{Fed}

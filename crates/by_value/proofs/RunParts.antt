@@ -8,7 +8,7 @@ use lib.Dec.{ltb}
 use lib.ListN.{length}
 use borrow.Author.Tests.{lt-ltb, le-ltb, le-leb, lt-leb}
 use Rattle.meaning.specs.Answers.{feedNumbers}
-use Rattle.meaning.specs.Basics.{if◌then◌else◌}
+use Rattle.std.specs.Prelude.{if◌then◌else◌}
 use Rattle.meaning.specs.Calls.{wrong_class, wrong_term}
 use Rattle.meaning.specs.Feeding.{first, finish, feed}
 use Rattle.meaning.specs.Outcome.{Fed, refusal}

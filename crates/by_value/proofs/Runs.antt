@@ -7,7 +7,8 @@ use native.Mathlib.Omega.{arith}
 use lib.Dec.{eqb}
 use lib.ListN.{length}
 use Rattle.meaning.specs.Answers.{feedNumbers}
-use Rattle.meaning.specs.Basics.{if◌then◌else◌, isNil, just}
+use Rattle.meaning.specs.Basics.{isNil, just}
+use Rattle.std.specs.Prelude.{if◌then◌else◌}
 use Rattle.meaning.specs.Calls.{State, FeedCall, feed_refused, feed_ended, feed_right, feed_call, wrong_term}
 use Rattle.meaning.specs.Feeding.{feed}
 use Rattle.meaning.specs.Identities.{ren_reading}

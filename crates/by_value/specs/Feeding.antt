@@ -1,7 +1,7 @@
 -- What the feed by value asks and promises: the public promise, where the array by value is what becomes of a lent list without records.
 use Rattle.std.specs.Prelude.{◌≡◌, Bool, true, List, ℕ, ◌≤◌, length}
 use Rattle.meaning.specs.Answers.{done, notTaken, feedNumbers}
-use Rattle.meaning.specs.Basics.{if◌then◌else◌}
+use Rattle.std.specs.Prelude.{if◌then◌else◌}
 use Rattle.meaning.specs.Bounds.{max_walked_by_feed}
 use Rattle.meaning.specs.Calls.{FeedCall, feed_right, feed_call}
 use Rattle.meaning.specs.Limits.{max_errors}

@@ -17,7 +17,7 @@ use lists::Entries;
 use meaning::{CellNo, Entry, HEIGHTS, Refusal, StackAnswer, StateNo};
 
 // What a call answers, and the entries for the lent list.
-#[derive(Drop)]
+#[derive(Clone, Copy)]
 pub struct StackRead {
     pub answer: StackAnswer,
     pub entries: Entries,

@@ -14,7 +14,7 @@ use lists::Errors;
 use meaning::{FIRST_TERM, FeedAnswer, Refusal, Term, View};
 
 // What a feed answers, and the error records for the lent list.
-#[derive(Drop)]
+#[derive(Clone, Copy)]
 pub struct FeedRun {
     pub answer: FeedAnswer,
     pub errors: Errors,

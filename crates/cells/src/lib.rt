@@ -1,4 +1,6 @@
 // One-entry cells in a lent pool, and stacks of them: a stack is read by recursion on its falling height, through parent cells.
+#![tactic(auto)]
+
 ghost use Rattle.std.specs.Prelude.{◌≡◌, reverse, ◌+◌, ◌*◌, ◌<◌, ◌≤◌, length};
 ghost use Rattle.meaning.specs.Calls.{written};
 ghost use Rattle.meaning.specs.Limits.{max_height};
@@ -12,7 +14,7 @@ use meaning::{CellNo, Entry, HEIGHTS, StateNo};
 pub const CELL_SIZE: usize = 18;
 
 // An entry, the cell under it, and the height of the stack that it is the top of.
-#[derive(Drop)]
+#[derive(Clone, Copy)]
 pub struct Cell {
     pub parent: CellNo,
     pub height: u16,

@@ -6,7 +6,8 @@ use mathlib.Core.Path.{◌≡◌, refl, sym, ap, ◌∙◌, subst}
 use mathlib.Core.List.{List, [], ◌∷◌}
 use lib.ListN.{length, get_or, take, length-take, drop_of_length-le}
 use lib.Seq.{get_or-take, drop-cons}
-use Rattle.meaning.specs.Basics.{if◌then◌else◌, Maybe, nothing, just}
+use Rattle.meaning.specs.Basics.{Maybe, nothing, just}
+use Rattle.std.specs.Prelude.{if◌then◌else◌}
 use Rattle.meaning.specs.TableFile.{ActionRecord, target, table_of, action_of}
 use Rattle.meaning.specs.TableRight.{shifts}
 use Rattle.meaning.specs.declared.View.{View}

@@ -6,7 +6,8 @@ use mathlib.Core.Bool.{Bool, true, false}
 use mathlib.Core.List.{List}
 use lib.Dec.{leb, ltb, leb-suc-suc}
 use borrow.Author.Tests.{lt-ltb, le-ltb}
-use Rattle.meaning.specs.Basics.{if◌then◌else◌, Maybe, nothing, just}
+use Rattle.meaning.specs.Basics.{Maybe, nothing, just}
+use Rattle.std.specs.Prelude.{if◌then◌else◌}
 use Rattle.meaning.specs.Walk.{Walked, refused, walked, shift, end_chain}
 use Rattle.meaning.specs.declared.Refusal.TheVariants.{TooManyReadings}
 use Rattle.table.specs.declared.Action.{Action}

@@ -8,7 +8,7 @@ use mathlib.Core.List.{List}
 use lib.Dec.{ltb}
 use lib.ListN.{length}
 use borrow.Author.Tests.{lt-ltb, le-ltb}
-use Rattle.meaning.specs.Basics.{if◌then◌else◌}
+use Rattle.std.specs.Prelude.{if◌then◌else◌}
 use Rattle.meaning.specs.TableFile.{Table}
 use Rattle.meaning.specs.Walk.{Walked, plan, chains}
 use Rattle.meaning.specs.Questions.{enough_room, planned, can_plan, or_else, recovers_from}

@@ -7,7 +7,8 @@ use mathlib.Core.Bool.{Bool, true, false}
 use mathlib.Core.List.{List, ◌∷◌}
 use lib.Dec.{ltb}
 use lib.ListN.{length, get_or}
-use Rattle.meaning.specs.Basics.{if◌then◌else◌, both, Maybe}
+use Rattle.meaning.specs.Basics.{both, Maybe}
+use Rattle.std.specs.Prelude.{if◌then◌else◌}
 use Rattle.meaning.specs.TableFile.{Table, ActionRecord, table_of, action_of}
 use Rattle.meaning.specs.TableRight.{shifts}
 use Rattle.meaning.specs.Chains.{record_at}

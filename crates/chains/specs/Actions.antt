@@ -1,6 +1,7 @@
 -- What a lookup gives of a state and a class, as meaning's record has it.
 use Rattle.std.specs.Prelude.{ℕ, ◌+◌, Bool, List, ltb, take, drop}
-use Rattle.meaning.specs.Basics.{if◌then◌else◌, both, Maybe, nothing, just}
+use Rattle.meaning.specs.Basics.{both, Maybe, nothing, just}
+use Rattle.std.specs.Prelude.{if◌then◌else◌}
 use Rattle.meaning.specs.Limits.{max_height}
 use Rattle.table.specs.declared.Action.{Action}
 

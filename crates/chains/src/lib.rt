@@ -1,4 +1,6 @@
 // One planning: the whole walk of one stack at one class, with its refusals and counts, and the marks by which it is followed.
+#![tactic(auto)]
+
 ghost use Rattle.std.specs.Prelude.{◌≡◌, ◌-◌, ◌*◌, ◌<◌, ◌≤◌, length};
 ghost use Rattle.meaning.specs.Limits.{max_walked};
 ghost use Rattle.meaning.specs.Questions.{enough_room};
@@ -20,14 +22,14 @@ mod reducing;
 pub use filling::{can_plan_stack, plan_stack, plan_within, recovers_stack};
 
 // What a planning comes to: refused, or the reductions tried, and the chains ended so far.
-#[derive(Drop)]
+#[derive(Clone, Copy)]
 pub enum Planned {
     Refused(Refusal),
     Walked { walked: usize, chains: usize },
 }
 
 // What is asked of a planning: the table's view, the room for chains in all, the class.
-#[derive(Drop)]
+#[derive(Clone, Copy)]
 struct Ask {
     view: View,
     room: usize,

@@ -10,14 +10,14 @@ use meaning::{HEIGHTS, MAX_WALKED, Refusal, StateNo, View};
 use table::Goto;
 
 // A simulated stack: its states, lowest first, and its height. It is copied at each reduction.
-#[derive(Drop)]
+#[derive(Clone, Copy)]
 pub struct Stack {
     pub states: [u16; HEIGHTS],
     pub height: usize,
 }
 
 // How far a walk is: the steps left in its chain, the reductions tried and the chains ended so far.
-#[derive(Drop)]
+#[derive(Clone, Copy)]
 pub struct Progress {
     pub left: usize,
     pub walked: usize,
@@ -25,7 +25,7 @@ pub struct Progress {
 }
 
 // What a reduction leads to: the state to push, and the height to push it at.
-#[derive(Drop)]
+#[derive(Clone, Copy)]
 pub enum Reduced {
     Refused(Refusal),
     To { state: StateNo, base: usize },

@@ -1,5 +1,7 @@
 // Plans stacks that stand at each limit, on both sides of it, from table files in data/, and says what each planning comes to; then asks questions of some.
 // Room is 16 chains, as in a feed. A table file has the name of what it shows; in `mixed`, rule 0 leads on to a shift, rule 1 has no goto, and rule 2 leads nowhere.
+#![tactic(auto)]
+
 ghost use Rattle.std.specs.Prelude.{◌<◌, ◌≤◌};
 ghost use Rattle.io.specs.Counts.{IsPrefixLen};
 ghost use Rattle.table.specs.Answers.{Belongs};

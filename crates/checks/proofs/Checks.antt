@@ -7,7 +7,8 @@ use native.Mathlib.Omega.{arith}
 use lib.Dec.{eqb}
 use lib.ListN.{length}
 use borrow.Author.Tests.{eqb-true}
-use Rattle.meaning.specs.Basics.{if◌then◌else◌, isNil, just, nothing}
+use Rattle.meaning.specs.Basics.{isNil, just, nothing}
+use Rattle.std.specs.Prelude.{if◌then◌else◌}
 use Rattle.meaning.specs.Calls.{check_state, checked}
 use Rattle.meaning.specs.Readings.{Reading}
 use Rattle.meaning.specs.TableFile.{Table, table_of, view_of}

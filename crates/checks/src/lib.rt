@@ -1,4 +1,6 @@
 // The checks 1, 2 and 3 of every call.
+#![tactic(auto)]
+
 ghost use Rattle.std.specs.Prelude.{◌≡◌, length};
 ghost use Rattle.state.specs.Layout.{state_len};
 ghost use Rattle.promises.specs.Buffers.{lengths_right, feed_lengths};
@@ -8,7 +10,7 @@ use meaning::{MAX_ERRORS, Refusal, View};
 use table::Checked;
 
 // A table and a state that go together, or the refusal.
-#[derive(Drop)]
+#[derive(Clone, Copy)]
 pub enum Found {
     Refused(Refusal),
     Right(View),

@@ -1,4 +1,6 @@
 // The end of a feed: the results' stacks move from the work area's pool to the state's, bottom first, and become the state's readings.
+#![tactic(auto)]
+
 ghost use Rattle.std.specs.Prelude.{◌≡◌, ◌<◌, ◌≤◌, length};
 ghost use Rattle.state.specs.Layout.{work_cells, work_len};
 ghost use Rattle.commit.specs.Moving.{moved_to, put_moved, forgotten, with_parent, move, move_step, move_stack, CellReady, MoveReady};
@@ -9,7 +11,7 @@ use meaning::CellNo;
 use state::Slot;
 
 // Where a stack has gone: its top's new cell, and the next cell that is free.
-#[derive(Drop)]
+#[derive(Clone, Copy)]
 struct Moved {
     no: CellNo,
     next: u16,

@@ -9,7 +9,8 @@ use lib.Dec.{eqb, ltb}
 use lib.ListN.{length, get_or, set, take, drop, length-append, get_or-append}
 use lib.Seq.{sets, sets-eq, length-sets, take_all, take-append-le}
 use borrow.Author.Tests.{le-leb, ne_eqb, eq-eqb, eqb-true, eqb-false, lt-ltb, le-ltb, ltb-true, ltb-false}
-use Rattle.meaning.specs.Basics.{if◌then◌else◌, both, every}
+use Rattle.meaning.specs.Basics.{both, every}
+use Rattle.std.specs.Prelude.{if◌then◌else◌}
 use Rattle.meaning.proofs.Booleans.{both_left, both_right, both_true}
 use Rattle.console.specs.Text.{first_of}
 use Rattle.console.specs.Input.{line_room, Fetched, Taken, PutIs, without_return, ended_line, ended_input, AtFeed, AtEnd, LineIs}

@@ -8,7 +8,8 @@ use native.Mathlib.Omega.{arith}
 use lib.Dec.{eqb, ltb}
 use lib.ListN.{length, get_or, set, get_or-eq_default}
 use borrow.Author.Tests.{eq-eqb, ne_eqb, ltb-false, lt-ltb, le-ltb}
-use Rattle.meaning.specs.Basics.{if◌then◌else◌, both}
+use Rattle.meaning.specs.Basics.{both}
+use Rattle.std.specs.Prelude.{if◌then◌else◌}
 use Rattle.meaning.proofs.Booleans.{both_true, both_false}
 use Rattle.console.specs.Input.{line_room, piece_room, begun_by, Refilled, Fetched, PutIs, without_return, ended_line, ended_input}
 use Rattle.console.specs.declared.lines.Rest.{Rest}

@@ -8,7 +8,8 @@ use lib.Dec.{eqb, ltb, leb}
 use lib.ListN.{length}
 use borrow.Author.Tests.{eq-eqb, ne_eqb, ltb-true, ltb-false, lt-ltb, le-ltb, leb-true, leb-false}
 use Rattle.meaning.specs.Answers.{number, stackNumbers}
-use Rattle.meaning.specs.Basics.{if◌then◌else◌, nothing, just}
+use Rattle.meaning.specs.Basics.{nothing, just}
+use Rattle.std.specs.Prelude.{if◌then◌else◌}
 use Rattle.meaning.specs.Calls.{State, check_state, StackCall, stack_refused, stack_right, stack_call}
 use Rattle.meaning.specs.TableRight.{table_ok}
 use Rattle.meaning.specs.declared.Refusal.{Refusal}

@@ -8,7 +8,8 @@ use lib.Dec.{eqb}
 use lib.ListN.{length, get_or, take, drop, length-drop, drop_of_length-le}
 use lib.Seq.{drop-cons, drop-length, take_all, take-suc, take-length, length-take-le}
 use borrow.Author.Tests.{eq-eqb, ne_eqb}
-use Rattle.meaning.specs.Basics.{if◌then◌else◌, both, either}
+use Rattle.meaning.specs.Basics.{both, either}
+use Rattle.std.specs.Prelude.{if◌then◌else◌}
 use Rattle.meaning.proofs.Booleans.{both_false, not_no, not_yes}
 use Rattle.console.specs.Text.{is_blank, blanks, past_blanks, text_end, first_of, trimmed_of}
 

@@ -1,4 +1,6 @@
 // A line of two terms on the sample table, and its first reading. This file is the whole program: Rattle proves it with no other.
+#![tactic(auto)]
+
 use by_value::{reading, running};
 use console::saying;
 use machine::Machine;

@@ -7,7 +7,8 @@ use native.Mathlib.Omega.{arith}
 use lib.Dec.{ltb, leb, eqb}
 use lib.ListN.{length}
 use borrow.Author.Tests.{lt-ltb}
-use Rattle.meaning.specs.Basics.{if◌then◌else◌, both, either, Maybe, nothing, just, isNil, every}
+use Rattle.meaning.specs.Basics.{both, either, Maybe, nothing, just, isNil, every}
+use Rattle.std.specs.Prelude.{if◌then◌else◌}
 use Rattle.meaning.specs.Bytes.{byte_at, u16_at}
 use Rattle.meaning.specs.Limits.{max_bytes}
 use Rattle.meaning.specs.TableFile.{places, numbers, rules_from, rule_at, action_at, goto_at, shift_to, view_of, table_of, action_of, start_class}

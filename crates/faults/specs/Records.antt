@@ -1,6 +1,6 @@
 -- The records of fields 3 and 4: record i stands at p.
 use Rattle.std.specs.Prelude.{Bool, List, [], ◌∷◌, ℕ, zero, suc, ◌+◌, ◌-◌, ltb, leb, eqb}
-use Rattle.meaning.specs.Basics.{if◌then◌else◌}
+use Rattle.std.specs.Prelude.{if◌then◌else◌}
 use Rattle.meaning.specs.Bytes.{byte_at, u16_at}
 use Rattle.meaning.specs.TableFile.{places}
 use Rattle.meaning.specs.TableRight.{Format, key_of, fits, action_format, goto_format}

@@ -1,6 +1,6 @@
 -- The rules of field 2: rule i stands at p.
 use Rattle.std.specs.Prelude.{false, List, ℕ, zero, suc, ◌+◌, ltb, leb, eqb}
-use Rattle.meaning.specs.Basics.{if◌then◌else◌}
+use Rattle.std.specs.Prelude.{if◌then◌else◌}
 use Rattle.meaning.specs.TableFile.{rule_at}
 use Rattle.meaning.specs.declared.Counts.{Counts}
 use Rattle.meaning.specs.declared.Rule.{Rule}

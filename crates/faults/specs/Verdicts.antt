@@ -1,6 +1,6 @@
 -- What a diagnosis says: that nothing is broken, or which rule is, and where. Tests are put one after the other by `first`.
 use Rattle.std.specs.Prelude.{Bool, true, false, ℕ}
-use Rattle.meaning.specs.Basics.{if◌then◌else◌}
+use Rattle.std.specs.Prelude.{if◌then◌else◌}
 use Rattle.faults.specs.declared.Fault.{Fault}
 use Rattle.faults.specs.declared.Verdict.{Verdict}
 use Rattle.faults.specs.declared.Verdict.TheVariants.{Right, Wrong, WrongRecord}

@@ -1,4 +1,6 @@
 // What is wrong with a table file: the first rule that it breaks, in the order of its bytes, and where.
+#![tactic(auto)]
+
 ghost use Rattle.std.specs.Prelude.{◌≡◌};
 ghost use Rattle.meaning.specs.TableFile.{view_of};
 ghost use Rattle.faults.specs.Verdicts.{holds, first, framed, recorded};
@@ -14,7 +16,7 @@ mod records;
 mod rules;
 
 // The rules of a table file, by what breaks them.
-#[derive(Drop)]
+#[derive(Clone, Copy)]
 pub enum Fault {
     TooLong,
     WrongTag,
@@ -49,7 +51,7 @@ pub enum Fault {
 }
 
 // No rule is broken; or one is, in a field, at a byte of the file; or in a record of a field.
-#[derive(Drop)]
+#[derive(Clone, Copy)]
 pub enum Verdict {
     Right,
     Wrong {

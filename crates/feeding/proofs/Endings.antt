@@ -7,7 +7,8 @@ use mathlib.Core.List.{List, reverse}
 use lib.Dec.{eqb}
 use lib.ListN.{length, length-reverse}
 use borrow.Author.Tests.{eq-eqb, ne_eqb}
-use Rattle.meaning.specs.Basics.{if◌then◌else◌, either, isNil}
+use Rattle.meaning.specs.Basics.{either, isNil}
+use Rattle.std.specs.Prelude.{if◌then◌else◌}
 use Rattle.meaning.specs.Readings.{Reading}
 use Rattle.meaning.specs.Feeding.{settles, must_recover, some_took, none_took}
 use Rattle.meaning.specs.TableFile.{Table}

@@ -4,7 +4,7 @@ use native.Mathlib.Omega.{arith}
 use mathlib.Core.Path.{◌≡◌, refl, sym, ap, ◌∙◌, subst}
 use mathlib.Core.Bool.{Bool, true, false}
 use mathlib.Core.List.{List, [], ◌∷◌, ◌++◌, reverse, append-nil, append_assoc}
-use Rattle.meaning.specs.Basics.{if◌then◌else◌}
+use Rattle.std.specs.Prelude.{if◌then◌else◌}
 use Rattle.meaning.specs.Readings.{Reading, states}
 use Rattle.meaning.specs.TableFile.{Table, table_of}
 use Rattle.meaning.specs.Walk.{Walk, Walked, refused, walked, plan, ends, chains}

@@ -1,4 +1,6 @@
 // Feeding, the first planning: one pass over the readings, last to first, in which each takes the term or is left; and what it comes to.
+#![tactic(auto)]
+
 ghost use Rattle.std.specs.Prelude.{◌≡◌, ◌+◌, ◌*◌, ◌≤◌, length};
 ghost use Rattle.meaning.specs.TableFile.{table_of};
 ghost use Rattle.meaning.specs.Feeding.{some_took, none_took, first};
@@ -16,7 +18,7 @@ use taking::{SoFar, Taking};
 pub mod unplanned;
 
 // A feed that ended with 0 or 12: the list of the readings that remain, with the counts of cells, readings and error records, and the reductions walked.
-#[derive(Drop)]
+#[derive(Clone, Copy)]
 pub struct Ended {
     pub taken: bool,
     pub list: usize,
@@ -25,14 +27,14 @@ pub struct Ended {
 }
 
 // What a feed comes to in the work area.
-#[derive(Drop)]
+#[derive(Clone, Copy)]
 pub enum Fed {
     Refused(Refusal),
     Ended(Ended),
 }
 
 // What the first planning comes to.
-#[derive(Drop)]
+#[derive(Clone, Copy)]
 pub enum First {
     Refused(Refusal),
     Ended(Ended),
@@ -40,7 +42,7 @@ pub enum First {
 }
 
 // What the pass comes to: refused, or how far the stage is and how many readings were left.
-#[derive(Drop)]
+#[derive(Clone, Copy)]
 enum Pass {
     Stopped(Refusal),
     Passed { so: SoFar, left: u16 },

@@ -1,4 +1,6 @@
 // The error records that a feed left in the work area, read out by value, once.
+#![tactic(auto)]
+
 ghost use Rattle.std.specs.Prelude.{◌≡◌, ◌≤◌, length};
 ghost use Rattle.meaning.specs.Limits.{max_errors};
 ghost use Rattle.state.specs.Layout.{work_len};

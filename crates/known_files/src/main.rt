@@ -1,4 +1,6 @@
 // Compares the table files of the known runs with the bytes that the runs are proved of, and says where they differ.
+#![tactic(auto)]
+
 use libc::STDOUT_FILENO;
 
 // How many bytes stand before the first that differs or is missing in one of the two.

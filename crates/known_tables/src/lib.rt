@@ -1,4 +1,6 @@
 // The table files of the known runs as arrays: byte for byte the lists that `meaning` proves the runs of.
+#![tactic(auto)]
+
 ghost use Rattle.std.specs.Prelude.{◌≡◌};
 ghost use Rattle.meaning.specs.KnownTables.{t1, t2, t4};
 

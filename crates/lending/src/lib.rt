@@ -1,4 +1,6 @@
 // A local list is lent to the machine and handed back by value with the answer: whoever calls these functions lends no list of records.
+#![tactic(auto)]
+
 ghost use Rattle.promises.specs.Calls.{StackPromise, FeedPromise};
 
 use machine::Machine;
@@ -7,14 +9,14 @@ use meaning::{Entry, ErrorRecord, FeedAnswer, HEIGHTS, StackAnswer, Term};
 pub mod short;
 
 // The answer of a feed, and what the lent list holds after it.
-#[derive(Drop)]
+#[derive(Clone, Copy)]
 pub struct FedList {
     pub answer: FeedAnswer,
     pub errors: [ErrorRecord; Machine::ERRORS],
 }
 
 // The answer of a stack read out, and what the lent list holds after it.
-#[derive(Drop)]
+#[derive(Clone, Copy)]
 pub struct StackList {
     pub answer: StackAnswer,
     pub entries: [Entry; HEIGHTS],

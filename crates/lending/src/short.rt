@@ -4,13 +4,13 @@ ghost use Rattle.promises.specs.Calls.{StackPromise, FeedPromise};
 use machine::Machine;
 use meaning::{Entry, ErrorRecord, FeedAnswer, HEIGHTS, StackAnswer, Term};
 
-#[derive(Drop)]
+#[derive(Clone, Copy)]
 pub struct FedShort {
     pub answer: FeedAnswer,
     pub errors: [ErrorRecord; Machine::ERRORS - 1],
 }
 
-#[derive(Drop)]
+#[derive(Clone, Copy)]
 pub struct StackShort {
     pub answer: StackAnswer,
     pub entries: [Entry; HEIGHTS - 1],

@@ -1,4 +1,6 @@
 // Walks the limits of a feed, on either side of each, and says what is answered and what is left.
+#![tactic(auto)]
+
 use by_value::reading;
 use console::terms::Traced;
 use console::{State, Work, saying, terms};

@@ -1,6 +1,6 @@
 -- What a list by value holds, and what filling a lent list from it means, over the record and the list's size.
 use Rattle.std.specs.Prelude.{ℕ, ◌≤◌, ◌≡◌, List, ◌++◌, eqb, leb, length, take, drop, replicate}
-use Rattle.meaning.specs.Basics.{if◌then◌else◌}
+use Rattle.std.specs.Prelude.{if◌then◌else◌}
 use Rattle.meaning.specs.Calls.{written}
 use Rattle.meaning.specs.TableFile.{state_no}
 use Rattle.meaning.specs.declared.ErrorRecord.{ErrorRecord}

@@ -1,4 +1,6 @@
 // Lists by value, and the thin functions that fill a lent list of records from them.
+#![tactic(auto)]
+
 pub mod entries;
 pub mod errors;
 

@@ -1,4 +1,6 @@
 // The reading machine: its limits and its calls. Nothing else is for users.
+#![tactic(auto)]
+
 ghost use Rattle.std.specs.Prelude.{◌≡◌};
 ghost use Rattle.machine.specs.Limits.{limits};
 ghost use Rattle.promises.specs.Calls.{StartPromise, takes_on, can_end_on, can_recover_on, QuestionPromise, StackPromise, FeedPromise};
@@ -10,11 +12,11 @@ use meaning::{
 mod asking;
 mod starting;
 
-#[derive(Drop)]
+#[derive(Clone, Copy)]
 pub struct Machine {}
 
 // The eight limits, and how long the lent buffers and the lent list of errors are.
-#[derive(Drop)]
+#[derive(Clone, Copy)]
 pub struct Limits {
     pub states: u16,
     pub classes: u16,

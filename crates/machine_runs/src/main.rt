@@ -1,4 +1,6 @@
 // Makes every call of the machine, on tables, states, lengths and classes that are right and that are not.
+#![tactic(auto)]
+
 use console::{State, Work, saying};
 use machine::Machine;
 use meaning::{QuestionAnswer, Refusal, StartAnswer};

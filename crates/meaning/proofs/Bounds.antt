@@ -6,7 +6,8 @@ use mathlib.Core.Bool.{Bool, true, false, not}
 use lib.ListN.{length, length-append}
 use lib.Dec.{ltb, T, ltb→lt}
 use native.Mathlib.Omega.{arith}
-use Rattle.meaning.specs.Basics.{if◌then◌else◌, either, isNil, AllOf}
+use Rattle.meaning.specs.Basics.{either, isNil, AllOf}
+use Rattle.std.specs.Prelude.{if◌then◌else◌}
 use Rattle.meaning.specs.Limits.{max_readings}
 use Rattle.meaning.specs.TableFile.{Table}
 use Rattle.meaning.specs.Readings.{Entry, Reading, states}

@@ -3,7 +3,8 @@ use Prim.Native.Nat.{ℕ, ◌+◌}
 use mathlib.Core.Path.{◌≡◌, refl, sym, ap, ap₂, ◌∙◌, subst}
 use mathlib.Core.List.{List, [], ◌∷◌, ◌++◌, map}
 use mathlib.Core.Bool.{Bool, true, false}
-use Rattle.meaning.specs.Basics.{if◌then◌else◌, Maybe, nothing, just, listed}
+use Rattle.meaning.specs.Basics.{Maybe, nothing, just, listed}
+use Rattle.std.specs.Prelude.{if◌then◌else◌}
 use Rattle.meaning.specs.TableFile.{Table, rule_of}
 use Rattle.meaning.specs.Readings.{Reading, plain}
 use Rattle.meaning.specs.Walk.{Walk, shift, reduce, ends}

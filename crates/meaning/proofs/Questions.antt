@@ -6,7 +6,8 @@ use mathlib.Core.Bool.{Bool, true, false}
 use lib.ListN.{length, get_or, drop}
 use lib.Dec.{leb, ltb, eqb, nleb→lt, nltb→le}
 use native.Mathlib.Omega.{arith}
-use Rattle.meaning.specs.Basics.{if◌then◌else◌, both, Maybe, nothing, just}
+use Rattle.meaning.specs.Basics.{both, Maybe, nothing, just}
+use Rattle.std.specs.Prelude.{if◌then◌else◌}
 use Rattle.meaning.specs.Answers.{number}
 use Rattle.meaning.specs.TableFile.{Table, ActionRecord, goto_of, rule_of}
 use Rattle.meaning.specs.TableRight.{shifts}

@@ -4,7 +4,8 @@ use mathlib.Core.Path.{◌≡◌, refl, sym, ap, ap₂, ◌∙◌, subst}
 use mathlib.Core.List.{List, [], ◌∷◌, ◌++◌, map, reverse}
 use mathlib.Core.Bool.{Bool, true, false, not}
 use native.Mathlib.Omega.{arith}
-use Rattle.meaning.specs.Basics.{if◌then◌else◌, either, isNil, flat, AllOf}
+use Rattle.meaning.specs.Basics.{either, isNil, flat, AllOf}
+use Rattle.std.specs.Prelude.{if◌then◌else◌}
 use Rattle.meaning.specs.Answers.{number}
 use Rattle.meaning.specs.TableFile.{Table}
 use Rattle.meaning.specs.Readings.{Reading, states, plain_entry, plain}

@@ -1,6 +1,7 @@
 -- Applying: the same chains in the same order, with actions. Spans, marks, births and error records.
 use Rattle.std.specs.Prelude.{ℕ, zero, suc, ◌+◌, ◌-◌, ◌%◌, List, [], ◌∷◌, ◌++◌, get_or, drop}
-use Rattle.meaning.specs.Basics.{if◌then◌else◌, Maybe, nothing, just}
+use Rattle.meaning.specs.Basics.{Maybe, nothing, just}
+use Rattle.std.specs.Prelude.{if◌then◌else◌}
 use Rattle.meaning.specs.TableFile.{Table, state_no, rule_of}
 use Rattle.meaning.specs.Kinds.{act}
 use Rattle.meaning.specs.Readings.{Entry, Reading, no_entry, top}

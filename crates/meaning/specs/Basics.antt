@@ -1,10 +1,5 @@
 -- The small tools that the definitions are written with. Assumes nothing.
-use Rattle.std.specs.Prelude.{ℕ, zero, suc, Bool, true, false, List, [], ◌∷◌, ◌++◌}
-
-infix 5 if◌then◌else◌
-abbrev pub if◌then◌else◌ {ℓ} : {X : Type ℓ} → Bool → X → X → X
-if true then x else y = x
-if false then x else y = y
+use Rattle.std.specs.Prelude.{ℕ, zero, suc, Bool, true, false, List, [], ◌∷◌, ◌++◌, if◌then◌else◌}
 
 abbrev pub both : Bool → Bool → Bool
 both true b = b

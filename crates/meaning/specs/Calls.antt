@@ -1,7 +1,8 @@
 -- The calls, on all inputs: checks 1, 2, 3, 4, 5 in this order, then 6 to 11 as planning meets them.
 -- Two things are the buffers' business and come in as arguments: whether all lengths are right, and which readings a state buffer holds, `nothing` if it breaks the layout rules or names a state that the table lacks.
 use Rattle.std.specs.Prelude.{ℕ, Bool, not, List, [], ◌∷◌, ◌++◌, map, leb, ltb, length, get_or, drop}
-use Rattle.meaning.specs.Basics.{if◌then◌else◌, either, Maybe, nothing, just, isNil}
+use Rattle.meaning.specs.Basics.{either, Maybe, nothing, just, isNil}
+use Rattle.std.specs.Prelude.{if◌then◌else◌}
 use Rattle.meaning.specs.Answers.{done, number}
 use Rattle.meaning.specs.TableFile.{Table, table_of, first_term}
 use Rattle.meaning.specs.TableRight.{table_ok}

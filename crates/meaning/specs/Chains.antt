@@ -1,6 +1,7 @@
 -- Chains, told on their own: which there are at a stack and a class, and their order. No limit is looked at here; the walk is.
 use Rattle.std.specs.Prelude.{ℕ, zero, suc, ◌≡◌, List, [], ◌∷◌, ◌++◌, map, leb, length, get_or, drop}
-use Rattle.meaning.specs.Basics.{if◌then◌else◌, Maybe, nothing, just, listed, nth}
+use Rattle.meaning.specs.Basics.{Maybe, nothing, just, listed, nth}
+use Rattle.std.specs.Prelude.{if◌then◌else◌}
 use Rattle.meaning.specs.Limits.{max_chain}
 use Rattle.meaning.specs.TableFile.{Table, ActionRecord, action_of, goto_of, rule_of}
 use Rattle.meaning.specs.declared.Rule.{Rule}

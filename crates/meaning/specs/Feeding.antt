@@ -1,6 +1,7 @@
 -- Feeding a term.
 use Rattle.std.specs.Prelude.{ℕ, ◌+◌, Bool, true, false, not, List, [], ◌∷◌, ◌++◌, map, reverse}
-use Rattle.meaning.specs.Basics.{if◌then◌else◌, either, isNil}
+use Rattle.meaning.specs.Basics.{either, isNil}
+use Rattle.std.specs.Prelude.{if◌then◌else◌}
 use Rattle.meaning.specs.Limits.{max_readings}
 use Rattle.meaning.specs.Answers.{done, notTaken}
 use Rattle.meaning.specs.TableFile.{Table}

@@ -1,6 +1,7 @@
 -- What a rule's action gives, by its kind.
 use Rattle.std.specs.Prelude.{ℕ, ◌+◌, ◌*◌, leb, eqb}
-use Rattle.meaning.specs.Basics.{if◌then◌else◌, both, Maybe, nothing, just}
+use Rattle.meaning.specs.Basics.{both, Maybe, nothing, just}
+use Rattle.std.specs.Prelude.{if◌then◌else◌}
 use Rattle.meaning.specs.Limits.{max_value}
 use Rattle.meaning.specs.declared.Rule.{Rule}
 

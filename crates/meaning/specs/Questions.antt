@@ -1,6 +1,6 @@
 -- The three questions: takes this class? can end? can recover? They change nothing.
 use Rattle.std.specs.Prelude.{ℕ, List, [], ◌∷◌}
-use Rattle.meaning.specs.Basics.{if◌then◌else◌}
+use Rattle.std.specs.Prelude.{if◌then◌else◌}
 use Rattle.meaning.specs.TableFile.{Table, end_class, error_class}
 use Rattle.meaning.specs.Readings.{Reading, states}
 use Rattle.meaning.specs.Walk.{Walked, refused, walked, plan, ends}

@@ -1,6 +1,7 @@
 -- Recovery: its two stages. It starts where no reading could be planned and the error class is used (Feeding).
 use Rattle.std.specs.Prelude.{ℕ, ◌+◌, Bool, List, [], ◌∷◌, ◌++◌, map, reverse, ltb}
-use Rattle.meaning.specs.Basics.{if◌then◌else◌, isNil}
+use Rattle.meaning.specs.Basics.{isNil}
+use Rattle.std.specs.Prelude.{if◌then◌else◌}
 use Rattle.meaning.specs.Limits.{max_readings}
 use Rattle.meaning.specs.Answers.{done, notTaken}
 use Rattle.meaning.specs.TableFile.{Table, error_class}

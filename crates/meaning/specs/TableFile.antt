@@ -1,6 +1,7 @@
 -- The table file: what its bytes say. Which bytes are right stands in TableRight.
 use Rattle.std.specs.Prelude.{ℕ, zero, suc, ◌+◌, ◌-◌, ◌*◌, Bool, List, [], ◌∷◌, map, ltb, eqb, get_or}
-use Rattle.meaning.specs.Basics.{if◌then◌else◌, both, Maybe, nothing, just, find}
+use Rattle.meaning.specs.Basics.{both, Maybe, nothing, just, find}
+use Rattle.std.specs.Prelude.{if◌then◌else◌}
 use Rattle.meaning.specs.Bytes.{byte_at, u16_at, u32_at}
 use Rattle.meaning.specs.declared.Counts.{Counts}
 use Rattle.meaning.specs.declared.Field.{Field}

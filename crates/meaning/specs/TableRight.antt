@@ -1,7 +1,8 @@
 -- When a table file is right: `table_ok` has every rule of the section. Wrong is answer 2.
 use Rattle.std.specs.Prelude.{ℕ, ◌+◌, ◌-◌, ◌*◌, ◌<◌, Bool, true, false, not, List, [], ◌∷◌, map, ltb, leb, eqb, length}
 use Rattle.std.proofs.Common.{arith}
-use Rattle.meaning.specs.Basics.{if◌then◌else◌, both, either, Maybe, nothing, just, isNil, every}
+use Rattle.meaning.specs.Basics.{both, either, Maybe, nothing, just, isNil, every}
+use Rattle.std.specs.Prelude.{if◌then◌else◌}
 use Rattle.meaning.specs.Bytes.{byte_at, u16_at}
 use Rattle.meaning.specs.Limits.{max_states, max_classes, max_nonterminals, max_rules, max_bytes}
 use Rattle.meaning.specs.TableFile.{view_of, places, rules_from, ActionRecord, GotoRecord, action_at, action_size, goto_at, goto_size, table_of, action_of, start_class}

@@ -1,6 +1,7 @@
 -- The walk: one planning, which is the whole walk of one stack at one class, with its limits and refusals.
 use Rattle.std.specs.Prelude.{ℕ, zero, suc, ◌+◌, Bool, List, [], ◌∷◌, leb, ltb, eqb, length, get_or, drop}
-use Rattle.meaning.specs.Basics.{if◌then◌else◌, both, either, Maybe, nothing, just}
+use Rattle.meaning.specs.Basics.{both, either, Maybe, nothing, just}
+use Rattle.std.specs.Prelude.{if◌then◌else◌}
 use Rattle.meaning.specs.Limits.{max_height, max_chain, max_walked}
 use Rattle.meaning.specs.TableFile.{Table, ActionRecord, goto_of, rule_of}
 use Rattle.meaning.specs.TableRight.{shifts}

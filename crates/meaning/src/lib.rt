@@ -1,12 +1,14 @@
 // The plain types that every crate shares, and the numbers of the answers. What they mean stands in specs/.
+#![tactic(auto)]
+
 ghost use Rattle.std.specs.Prelude.{◌≡◌};
 ghost use Rattle.meaning.specs.Answers.{number, startNumber, feedNumbers, questionNumbers, stackNumbers};
 
 // A cell's number and a state's: two types, so that neither is taken for the other.
-#[derive(Drop)]
+#[derive(Clone, Copy)]
 pub struct CellNo(pub u16);
 
-#[derive(Drop)]
+#[derive(Clone, Copy)]
 pub struct StateNo(pub u16);
 
 // The classes that are no terms, and the first that is one.
@@ -43,7 +45,7 @@ pub const HEIGHTS: usize = MAX_HEIGHT as usize;
 pub const MAX_CHAINS: usize = MAX_READINGS as usize;
 
 // What is fed: a class, a value and a span.
-#[derive(Drop)]
+#[derive(Clone, Copy)]
 pub struct Term {
     pub class: u16,
     pub value: u32,
@@ -52,7 +54,7 @@ pub struct Term {
 }
 
 // What is seen of an entry. Its identity is not shown: no promise says which cell holds it.
-#[derive(Drop)]
+#[derive(Clone, Copy)]
 pub struct Entry {
     pub state: StateNo,
     pub value: u32,
@@ -61,7 +63,7 @@ pub struct Entry {
 }
 
 // A refused action, or with rule 65,535 a reading that could not be planned.
-#[derive(Drop)]
+#[derive(Clone, Copy)]
 pub struct ErrorRecord {
     pub rule: u16,
     pub state: StateNo,
@@ -69,7 +71,7 @@ pub struct ErrorRecord {
 }
 
 // Field 1 of a table file.
-#[derive(Drop)]
+#[derive(Clone, Copy)]
 pub struct Counts {
     pub states: u16,
     pub classes: u16,
@@ -78,14 +80,14 @@ pub struct Counts {
 }
 
 // Where a field's data begins and ends.
-#[derive(Drop)]
+#[derive(Clone, Copy)]
 pub struct Field {
     pub at: usize,
     pub end: usize,
 }
 
 // What lookups need to know of a checked table file: the counts, where fields 2, 3 and 4 stand, whether the error class is used.
-#[derive(Drop)]
+#[derive(Clone, Copy)]
 pub struct View {
     pub counts: Counts,
     pub rules: Field,
@@ -95,7 +97,7 @@ pub struct View {
 }
 
 // A rule of field 2.
-#[derive(Drop)]
+#[derive(Clone, Copy)]
 pub struct Rule {
     pub left: u16,
     pub len: u8,
@@ -107,7 +109,7 @@ pub struct Rule {
 }
 
 // Why a call changed nothing: the answers 1 to 11, in their order.
-#[derive(Drop)]
+#[derive(Clone, Copy)]
 pub enum Refusal {
     WrongLength,
     WrongTable,
@@ -142,7 +144,7 @@ impl Refusal {
     }
 }
 
-#[derive(Drop)]
+#[derive(Clone, Copy)]
 pub enum StartAnswer {
     Done,
     Refused(Refusal),
@@ -160,7 +162,7 @@ impl StartAnswer {
 }
 
 // Done is 0; NotTaken is 12: no reading took the term.
-#[derive(Drop)]
+#[derive(Clone, Copy)]
 pub enum FeedAnswer {
     Done { errors: usize, walked: u32 },
     NotTaken { errors: usize, walked: u32 },
@@ -168,7 +170,7 @@ pub enum FeedAnswer {
 }
 
 // The answer's number, the count of error records, the reductions walked.
-#[derive(Drop)]
+#[derive(Clone, Copy)]
 pub struct FeedNumbers {
     pub answer: u8,
     pub errors: usize,
@@ -199,14 +201,14 @@ impl FeedAnswer {
     }
 }
 
-#[derive(Drop)]
+#[derive(Clone, Copy)]
 pub enum QuestionAnswer {
     Yes,
     No,
     Refused(Refusal),
 }
 
-#[derive(Drop)]
+#[derive(Clone, Copy)]
 pub struct QuestionNumbers {
     pub answer: u8,
     pub yes: bool,
@@ -233,13 +235,13 @@ impl QuestionAnswer {
     }
 }
 
-#[derive(Drop)]
+#[derive(Clone, Copy)]
 pub enum StackAnswer {
     Read { height: u16, mark: u32 },
     Refused(Refusal),
 }
 
-#[derive(Drop)]
+#[derive(Clone, Copy)]
 pub struct StackNumbers {
     pub answer: u8,
     pub height: u16,

@@ -1,4 +1,6 @@
 // Numbers of two and four bytes, high byte first, read and written in lent bytes; and clearing lent bytes.
+#![tactic(auto)]
+
 ghost use Rattle.std.specs.Prelude.{◌≡◌, ◌+◌, ◌<◌, ◌≤◌, length};
 ghost use Rattle.meaning.specs.Bytes.{u16_at, u32_at};
 ghost use Rattle.numbers.specs.Writing.{put_u16, put_u32};

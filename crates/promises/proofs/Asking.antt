@@ -8,7 +8,8 @@ use mathlib.Core.Logic.{◌⊎◌, inl, inr}
 use lib.Dec.{leb}
 use lib.ListN.{length, get_or}
 use Rattle.meaning.specs.Answers.{number, questionNumbers}
-use Rattle.meaning.specs.Basics.{if◌then◌else◌, isNil, just, AllOf}
+use Rattle.meaning.specs.Basics.{isNil, just, AllOf}
+use Rattle.std.specs.Prelude.{if◌then◌else◌}
 use Rattle.meaning.specs.Calls.{State, checked, wrong_class, takes_right, takes_call, can_end_call, can_recover_call, StackCall, no_reading, stack_refused, stack_read, stack_right, stack_call}
 use Rattle.meaning.specs.Questions.{takes, can_end, can_recover}
 use Rattle.meaning.specs.Readings.{Reading}

@@ -8,7 +8,8 @@ use lib.Dec.{eqb}
 use lib.ListN.{length, drop, length-append, length-drop}
 use lib.Seq.{drop-append_seam}
 use borrow.Author.Tests.{eqb-true, eq-eqb}
-use Rattle.meaning.specs.Basics.{if◌then◌else◌, nothing, just}
+use Rattle.meaning.specs.Basics.{nothing, just}
+use Rattle.std.specs.Prelude.{if◌then◌else◌}
 use Rattle.meaning.specs.Calls.{State, written}
 use Rattle.meaning.specs.Limits.{max_height, max_errors}
 use Rattle.meaning.specs.Readings.{Reading}

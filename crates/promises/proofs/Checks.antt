@@ -6,7 +6,8 @@ use mathlib.Core.Bool.{Bool, true, false, not}
 use mathlib.Core.List.{List, [], ◌∷◌}
 use mathlib.Core.Logic.{◌⊎◌, inl, inr}
 use Rattle.meaning.specs.Answers.{done, number}
-use Rattle.meaning.specs.Basics.{if◌then◌else◌, nothing, just, isNil}
+use Rattle.meaning.specs.Basics.{nothing, just, isNil}
+use Rattle.std.specs.Prelude.{if◌then◌else◌}
 use Rattle.meaning.specs.Calls.{State, check_state, checked, StartCall, start_call, wrong_term, FeedCall, feed_refused, feed_ended, feed_right, feed_call}
 use Rattle.meaning.specs.Feeding.{feed}
 use Rattle.meaning.specs.Readings.{Reading, start_reading}

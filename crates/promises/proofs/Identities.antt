@@ -5,7 +5,8 @@ use mathlib.Core.List.{List, [], ◌∷◌, ◌++◌, map}
 use Prim.Native.Nat.{ℕ}
 use lib.Dec.{eqb}
 use borrow.Author.Tests.{eqb-true, eq-eqb}
-use Rattle.meaning.specs.Basics.{if◌then◌else◌, either, nothing, just, flat, find, AllOf}
+use Rattle.meaning.specs.Basics.{either, nothing, just, flat, find, AllOf}
+use Rattle.std.specs.Prelude.{if◌then◌else◌}
 use Rattle.meaning.specs.Calls.{State}
 use Rattle.meaning.specs.Identities.{ren_entry, ren_reading}
 use Rattle.meaning.specs.Readings.{Entry, Reading, plain, holds, held_by}

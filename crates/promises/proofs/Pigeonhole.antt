@@ -5,7 +5,7 @@ use mathlib.Core.Path.{◌≡◌, refl, sym, ◌∙◌}
 use mathlib.Core.Bool.{Bool, true, false}
 use lib.Dec.{eqb}
 use borrow.Author.Tests.{eqb-true, eqb-false}
-use Rattle.meaning.specs.Basics.{if◌then◌else◌}
+use Rattle.std.specs.Prelude.{if◌then◌else◌}
 
 -- One place less: what went to the last place goes where n went.
 module _ (n m : ℕ) (f : ℕ → ℕ) (into : (c : ℕ) → c < suc n → f c < suc m) (apart : (a b : ℕ) → a < suc n → b < suc n → f a ≡ f b → a ≡ b) where

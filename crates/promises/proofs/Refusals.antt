@@ -9,7 +9,8 @@ use lib.ListN.{length, get_or, drop}
 use native.Mathlib.Omega.{arith}
 use Rattle.meaning.specs.Answers.{number}
 use Rattle.meaning.specs.Applying.{Applied, apply, joined, nothing_applied, one_result}
-use Rattle.meaning.specs.Basics.{if◌then◌else◌, both, either, Maybe, nothing, just, isNil}
+use Rattle.meaning.specs.Basics.{both, either, Maybe, nothing, just, isNil}
+use Rattle.std.specs.Prelude.{if◌then◌else◌}
 use Rattle.meaning.specs.Chains.{record_at}
 use Rattle.meaning.specs.Feeding.{Planned, no_plan, plans, add_reading, add_plan, plan_all, apply_all, some_took, none_took, First, refuses, settles, must_recover, settle, first_of, first, finish, feed}
 use Rattle.meaning.specs.Outcome.{Fed}

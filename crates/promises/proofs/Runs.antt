@@ -9,7 +9,8 @@ use lib.Seq.{take-append_seam, drop-nil}
 use borrow.Author.Tests.{ltb-true}
 use Rattle.meaning.specs.Answers.{feedNumbers}
 use Rattle.meaning.specs.Applying.{act_on, span_start, reduced, shifted, refused_action, unplanned, apply}
-use Rattle.meaning.specs.Basics.{Maybe, if◌then◌else◌, both, nothing, just, isNil, every, AllOf, find}
+use Rattle.meaning.specs.Basics.{Maybe, both, nothing, just, isNil, every, AllOf, find}
+use Rattle.std.specs.Prelude.{if◌then◌else◌}
 use Rattle.meaning.specs.Bounds.{max_births}
 use Rattle.meaning.specs.Bytes.{u16_at, u32_at}
 use Rattle.meaning.specs.Calls.{State, check_state, StartCall, start_call, wrong_class, wrong_term, FeedCall, feed_refused, feed_ended, feed_right, feed_call}

@@ -8,7 +8,8 @@ use lib.Dec.{eqb}
 use lib.ListN.{length, length-map}
 use mathlib.Core.Logic.{◌⊎◌, inl, inr, ⊎_elim}
 use borrow.Author.Tests.{eqb-true, eq-eqb, ne_eqb}
-use Rattle.meaning.specs.Basics.{if◌then◌else◌, either}
+use Rattle.meaning.specs.Basics.{either}
+use Rattle.std.specs.Prelude.{if◌then◌else◌}
 use Rattle.meaning.specs.Identities.{ren_entry, ren_reading}
 use Rattle.meaning.specs.Readings.{Entry, Reading, no_entry, top, holds, held_by}
 use Rattle.meaning.proofs.Booleans.{no_false}

@@ -4,7 +4,8 @@ use mathlib.Core.Path.{◌≡◌, refl, sym, ap, ◌∙◌, subst}
 use mathlib.Core.Bool.{Bool, true, false}
 use mathlib.Core.List.{List, [], ◌∷◌, map}
 use lib.ListN.{length}
-use Rattle.meaning.specs.Basics.{if◌then◌else◌, nothing, just}
+use Rattle.meaning.specs.Basics.{nothing, just}
+use Rattle.std.specs.Prelude.{if◌then◌else◌}
 use Rattle.meaning.specs.Identities.{ren_entry, ren_reading}
 use Rattle.meaning.specs.Readings.{Entry, Reading}
 use Rattle.meaning.specs.TableFile.{table_of}

@@ -7,7 +7,8 @@ use mathlib.Core.List.{List, [], ◌∷◌, map}
 use mathlib.Core.Logic.{inl, inr}
 use lib.Dec.{eqb, ltb}
 use borrow.Author.Tests.{eqb-true, lt-ltb, le-ltb}
-use Rattle.meaning.specs.Basics.{if◌then◌else◌, either, AllOf}
+use Rattle.meaning.specs.Basics.{either, AllOf}
+use Rattle.std.specs.Prelude.{if◌then◌else◌}
 use Rattle.meaning.specs.Feeding.{feed}
 use Rattle.meaning.specs.Identities.{ren_reading, ren_fed, Occurs, Renaming}
 use Rattle.meaning.specs.Outcome.{Fed}

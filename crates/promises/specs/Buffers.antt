@@ -1,6 +1,7 @@
 -- The lent buffers of a call: their lengths, the state that bytes are, and the work area afterwards.
 use Rattle.std.specs.Prelude.{Bool, List, ℕ, eqb, length}
-use Rattle.meaning.specs.Basics.{if◌then◌else◌, both}
+use Rattle.meaning.specs.Basics.{both}
+use Rattle.std.specs.Prelude.{if◌then◌else◌}
 use Rattle.meaning.specs.Calls.{State}
 use Rattle.meaning.specs.Limits.{max_height, max_errors}
 use Rattle.meaning.specs.TableFile.{table_of}

@@ -1,6 +1,6 @@
 -- Two state buffers that are equal but for which cell holds which entry, and in nothing else.
 use Rattle.std.specs.Prelude.{◌≡◌, List, ℕ, ◌+◌, ◌-◌, ◌*◌, ◌<◌, eqb, length}
-use Rattle.meaning.specs.Basics.{if◌then◌else◌}
+use Rattle.std.specs.Prelude.{if◌then◌else◌}
 use Rattle.numbers.specs.Writing.{Agree}
 use Rattle.cells.specs.Pool.{cell_size, cell_at}
 use Rattle.cells.specs.declared.Cell.{Cell}

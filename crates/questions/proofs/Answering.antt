@@ -5,7 +5,7 @@ use mathlib.Core.Bool.{Bool, true, false}
 use mathlib.Core.List.{List}
 use lib.ListN.{length}
 use native.Mathlib.Omega.{arith}
-use Rattle.meaning.specs.Basics.{if◌then◌else◌}
+use Rattle.std.specs.Prelude.{if◌then◌else◌}
 use Rattle.meaning.specs.TableFile.{Table, table_of}
 use Rattle.meaning.specs.Readings.{states}
 use Rattle.meaning.specs.Questions.{can_plan, or_else, takes, can_end, recovers_from, some_recovers, can_recover}

@@ -1,4 +1,6 @@
 // The core of the three questions, over a checked table and a checked state: takes this class, can end, can recover.
+#![tactic(auto)]
+
 ghost use Rattle.std.specs.Prelude.{◌≡◌};
 ghost use Rattle.meaning.specs.TableFile.{table_of};
 ghost use Rattle.meaning.specs.Questions.{takes, can_end, some_recovers, can_recover};

@@ -8,7 +8,8 @@ use lib.Dec.{eqb}
 use borrow.Author.Tests.{eq-eqb, ne_eqb}
 use Rattle.meaning.specs.Answers.{done, notTaken}
 use Rattle.meaning.specs.Applying.{unplanned}
-use Rattle.meaning.specs.Basics.{if◌then◌else◌, isNil}
+use Rattle.meaning.specs.Basics.{isNil}
+use Rattle.std.specs.Prelude.{if◌then◌else◌}
 use Rattle.meaning.specs.Outcome.{Fed as MeantFed}
 use Rattle.meaning.specs.Readings.{Reading}
 use Rattle.meaning.specs.Recovery.{Stage as Meant, came, term_taken, none_recovered, after_recovery}

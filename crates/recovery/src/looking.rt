@@ -11,7 +11,7 @@ use meaning::{CellNo, ERROR_CLASS, Term, View};
 use taking::{SoFar, Taking};
 
 // The readings that still wait: so many, from the reading `next` on.
-#[derive(Drop)]
+#[derive(Clone, Copy)]
 struct Waiting {
     next: u16,
     count: u16,

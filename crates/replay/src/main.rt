@@ -1,4 +1,6 @@
 // Answers a replay script on standard input: each command is a call of the machine; what it answers is a line, with the errors and the readings below it.
+#![tactic(auto)]
+
 use commands::{Call, Command, Source};
 use console::lines::{Line, Next, Piece};
 use console::{State, Work, blanks, lines, saying};

@@ -7,7 +7,7 @@ use mathlib.Core.List.{List, [], ◌∷◌, ◌++◌, append_assoc}
 use lib.Dec.{ltb, T, ltb→lt}
 use borrow.Author.Tests.{lt-ltb}
 use Rattle.meaning.specs.Applying.{apply}
-use Rattle.meaning.specs.Basics.{if◌then◌else◌}
+use Rattle.std.specs.Prelude.{if◌then◌else◌}
 use Rattle.meaning.specs.Readings.{Reading, states}
 use Rattle.meaning.specs.TableFile.{Table}
 use Rattle.meaning.specs.Walk.{Walk, Walked, refused, walked, plan}

@@ -7,7 +7,8 @@ use mathlib.Core.Logic.{◌⊎◌, inl, inr}
 use mathlib.Core.List.{List, [], ◌∷◌, ◌++◌, reverse, append_assoc, append-nil}
 use lib.Dec.{ltb, T, ltb→lt}
 use Rattle.meaning.specs.Applying.{Applied, apply, joined, nothing_applied, one_result}
-use Rattle.meaning.specs.Basics.{if◌then◌else◌, either, isNil, nothing, just}
+use Rattle.meaning.specs.Basics.{either, isNil, nothing, just}
+use Rattle.std.specs.Prelude.{if◌then◌else◌}
 use Rattle.meaning.specs.Feeding.{Planned, no_plan, plans, add_reading, add_plan, plan_all, apply_all, First, refuses, settles, must_recover, some_took, none_took, settle, first_of, first, finish, feed}
 use Rattle.meaning.specs.Outcome.{Fed, refusal}
 use Rattle.meaning.specs.Readings.{Entry, Reading, states}

@@ -1,7 +1,7 @@
 -- Turns of a feed, and how far they fill the pool: every birth finds a cell (`cell_found` in proofs/Births). Which turns a feed has: FeedTurns.
 use Rattle.std.specs.Prelude.{ℕ, ◌+◌, ◌≤◌, ◌≡◌, List, [], ◌∷◌, ◌++◌, ltb}
 use Rattle.meaning.specs.Applying.{apply}
-use Rattle.meaning.specs.Basics.{if◌then◌else◌}
+use Rattle.std.specs.Prelude.{if◌then◌else◌}
 use Rattle.meaning.specs.Limits.{max_readings}
 use Rattle.meaning.specs.Readings.{Reading, states}
 use Rattle.meaning.specs.TableFile.{Table}

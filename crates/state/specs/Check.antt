@@ -1,6 +1,7 @@
 -- The layout's rules, as a test on any bytes: answer 3 where it is false. And what a state is known to be where it is true.
 use Rattle.std.specs.Prelude.{Bool, true, List, ℕ, zero, suc, ◌+◌, ◌*◌, ◌<◌, ◌≤◌, ltb, leb, length}
-use Rattle.meaning.specs.Basics.{if◌then◌else◌, both, just, nothing, AllOf}
+use Rattle.meaning.specs.Basics.{both, just, nothing, AllOf}
+use Rattle.std.specs.Prelude.{if◌then◌else◌}
 use Rattle.meaning.specs.Bounds.{Standing}
 use Rattle.meaning.specs.Calls.{State}
 use Rattle.meaning.specs.Limits.{max_readings, max_height}

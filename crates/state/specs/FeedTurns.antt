@@ -1,7 +1,8 @@
 -- The turns of a feed, in the shape of the rules: which readings are planned for which terms, in which order, and which stay. A refusal ends them where it is met (Births).
 use Rattle.std.specs.Prelude.{ℕ, ◌+◌, ◌≤◌, ◌≡◌, ◌⊎◌, List, [], ◌∷◌, ◌++◌, map, reverse}
 use Rattle.meaning.specs.Applying.{Applied, joined, nothing_applied}
-use Rattle.meaning.specs.Basics.{if◌then◌else◌, isNil}
+use Rattle.meaning.specs.Basics.{isNil}
+use Rattle.std.specs.Prelude.{if◌then◌else◌}
 use Rattle.meaning.specs.Feeding.{First, refuses, settles, must_recover, first, feed}
 use Rattle.meaning.specs.Limits.{max_readings}
 use Rattle.meaning.specs.Outcome.{refusal}

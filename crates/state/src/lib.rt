@@ -1,4 +1,6 @@
 // The state buffer and the work area: where things stand in them, the check of any bytes, the readings of a state, start and load.
+#![tactic(auto)]
+
 ghost use Rattle.std.specs.Prelude.{◌≡◌, ◌++◌, ◌+◌, ◌*◌, ◌<◌, ◌≤◌, eqb, length};
 ghost use Rattle.meaning.specs.Readings.{held_by};
 ghost use Rattle.state.specs.Layout.{state_len, work_len, readings_at, slot_size};
@@ -40,7 +42,7 @@ pub const MAP_AT: usize = 42272;
 pub const WORK_LENGTH: usize = 46464;
 
 // A reading as a list has it: its top cell and its mark.
-#[derive(Drop)]
+#[derive(Clone, Copy)]
 pub struct Slot {
     pub top: CellNo,
     pub mark: u32,

@@ -1,5 +1,7 @@
 // Walks the limits of the state buffer and prints what the check and the commit make of them: the height, the number of readings, cells shared or not, and one
 // damaged number for each rule of the layout.
+#![tactic(auto)]
+
 use cells::Cell;
 use libc::STDOUT_FILENO;
 use meaning::{CellNo, StateNo};

@@ -7,7 +7,8 @@ use native.Mathlib.Omega.{arith}
 use lib.Dec.{ltb, leb, eqb}
 use lib.ListN.{length, take, get_or}
 use borrow.Author.Tests.{ne_eqb, ltb-true, leb-true}
-use Rattle.meaning.specs.Basics.{if◌then◌else◌, both, every, find, Maybe, nothing, just}
+use Rattle.meaning.specs.Basics.{both, every, find, Maybe, nothing, just}
+use Rattle.std.specs.Prelude.{if◌then◌else◌}
 use Rattle.meaning.specs.TableFile.{state_no, rules_from, rule_at, no_rule, ActionRecord, target, no_record, is_pair, actions_of, gotos_of, table_of, rule_of, action_of, goto_of, start_state}
 use Rattle.meaning.specs.TableRight.{counts_right, frame_right, picks, kind_right, rule_right, shift_right, rules_below, action_right, goto_right, Format, action_format, goto_format, fits, records_right, field_right, content_right}
 use Rattle.meaning.specs.declared.Counts.{Counts}

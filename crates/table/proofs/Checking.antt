@@ -7,7 +7,8 @@ use native.Mathlib.Omega.{arith}
 use lib.Dec.{leb, eqb}
 use lib.ListN.{length, get_or}
 use borrow.Author.Tests.{leb-true, eqb-true}
-use Rattle.meaning.specs.Basics.{if◌then◌else◌, every, nothing, just}
+use Rattle.meaning.specs.Basics.{every, nothing, just}
+use Rattle.std.specs.Prelude.{if◌then◌else◌}
 use Rattle.meaning.specs.Bytes.{byte_at, u16_at}
 use Rattle.meaning.specs.TableFile.{field_at, view_of, rules_from, no_rule, no_record, actions_of, gotos_of, table_of, rule_of, action_of, goto_of}
 use Rattle.meaning.specs.TableRight.{counts_right, head_at, front_right, middle_right, back_right, shape_right, frame_right, rule_right, action_format, goto_format, field_right, content_right, shifts, table_ok}

@@ -6,7 +6,8 @@ use Prim.Native.Nat.{ℕ, zero, suc, ◌+◌, ◌-◌, ◌<◌, ◌≤◌}
 use native.Mathlib.Omega.{arith}
 use lib.Dec.{ltb, leb}
 use borrow.Author.Tests.{lt-ltb, le-ltb, leb-true}
-use Rattle.meaning.specs.Basics.{if◌then◌else◌, both, every}
+use Rattle.meaning.specs.Basics.{both, every}
+use Rattle.std.specs.Prelude.{if◌then◌else◌}
 use Rattle.meaning.specs.TableFile.{places}
 use Rattle.meaning.specs.TableRight.{Format, key_of, fits, ascends, records_right, field_right}
 use Rattle.table.specs.Records.{record_test}

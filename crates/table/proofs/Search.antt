@@ -6,7 +6,8 @@ use Prim.Native.Nat.{ℕ, ◌+◌, ◌-◌, ◌<◌, ◌≤◌}
 use native.Mathlib.Omega.{arith}
 use lib.Dec.{leb, eqb}
 use borrow.Author.Tests.{eq-eqb, leb-true, eqb-true}
-use Rattle.meaning.specs.Basics.{if◌then◌else◌, both, every, find}
+use Rattle.meaning.specs.Basics.{both, every, find}
+use Rattle.std.specs.Prelude.{if◌then◌else◌}
 use Rattle.meaning.specs.TableFile.{places, is_pair}
 use Rattle.meaning.specs.TableRight.{Format, pair, key_of, fits, ascends, records_right, field_right}
 use Rattle.table.specs.Records.{record_test, seek, Scan}

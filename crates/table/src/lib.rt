@@ -1,4 +1,6 @@
 // The table file: the check of any bytes, and lookups in a checked table.
+#![tactic(auto)]
+
 ghost use Rattle.std.specs.Prelude.{◌≡◌};
 ghost use Rattle.meaning.specs.TableFile.{table_of, rule_of, action_of, goto_of};
 ghost use Rattle.meaning.specs.TableRight.{content_right};
@@ -13,14 +15,14 @@ mod gotos;
 mod reading;
 mod rules;
 
-#[derive(Drop)]
+#[derive(Clone, Copy)]
 pub enum Checked {
     Wrong,
     Right(View),
 }
 
 // What a state does at a class: whether it shifts and to which state (0 if it does not), how many rules it reduces by, and which (0 past the count).
-#[derive(Drop)]
+#[derive(Clone, Copy)]
 pub struct Action {
     pub shifts: bool,
     pub target: StateNo,
@@ -29,7 +31,7 @@ pub struct Action {
 }
 
 // Where a state goes on after a reduction.
-#[derive(Drop)]
+#[derive(Clone, Copy)]
 pub enum Goto {
     To(StateNo),
     Nothing,

@@ -1,4 +1,6 @@
 // Says of each table file that the arguments name whether it is right, and if not the first rule that it breaks, with field, record and byte.
+#![tactic(auto)]
+
 ghost use Rattle.std.specs.Prelude.{◌≡◌, length};
 
 use faults::{Fault, Verdict};

@@ -1,4 +1,6 @@
 // Checks T1, T2 and T4, and T1 cut short or changed in a byte, and prints what is found.
+#![tactic(auto)]
+
 use table::Checked;
 
 mod print;

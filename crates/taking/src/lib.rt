@@ -1,4 +1,6 @@
 // One reading takes a term: it is planned and, if a chain ends, applied at once.
+#![tactic(auto)]
+
 ghost use Rattle.std.specs.Prelude.{◌≡◌};
 ghost use Rattle.meaning.specs.TableFile.{table_of};
 ghost use Rattle.state.specs.Readings.{ListIn};
@@ -10,7 +12,7 @@ use chains::Planned;
 use meaning::{MAX_CHAINS, Refusal, Term, View};
 
 // How far a stage of a feed is: cells, results and error records, the reductions walked, the chains ended in this stage.
-#[derive(Drop)]
+#[derive(Clone, Copy)]
 pub struct SoFar {
     pub counts: Counts,
     pub walked: usize,
@@ -18,7 +20,7 @@ pub struct SoFar {
 }
 
 // A reading is refused, takes the term, or cannot be planned.
-#[derive(Drop)]
+#[derive(Clone, Copy)]
 pub enum Taking {
     Refused(Refusal),
     Took(SoFar),

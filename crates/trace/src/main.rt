@@ -1,4 +1,6 @@
 // Reads a table file, which its argument names, and on standard input a term a line (class, value, start, end); prints a line for each: answer, readings left, errors, reductions walked.
+#![tactic(auto)]
+
 use console::files::Contents;
 use console::lines::{Line, Next, Piece};
 use console::terms::Traced;

@@ -1,0 +1,6 @@
+-- `cells::entry_at` meets its contract. Assumes nothing.
+use borrow.Author.Rules.{rules}
+use Rattle.cells.proofs.entry_at.Goals as goal
+
+pub returns : goal.returns
+returns c = cc

@@ -1,0 +1,9 @@
+-- `numbers::get32` meets its contract. Assumes nothing.
+use Rattle.meaning.specs.Bytes.{u32_at}
+use native.Mathlib.Omega.{arith}
+use borrow.Author.Rules.{rules}
+use Rattle.numbers.proofs.get32.Goals as goal
+
+pub returns : goal.returns
+unfolding u32_at
+returns c = omega arith

@@ -1,0 +1,8 @@
+-- `state::put_slot` meets its contract. Assumes nothing.
+use Rattle.state.specs.Readings.{put_slot}
+use borrow.Author.Rules.{rules}
+use Rattle.state.proofs.put_slot.Goals as goal
+
+pub returns : goal.returns
+unfolding put_slot
+returns c = cc

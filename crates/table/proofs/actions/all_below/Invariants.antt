@@ -1,0 +1,16 @@
+-- `table::actions::all_below` meets its contract. Assumes nothing.
+use Rattle.meaning.specs.TableFile.{numbers}
+use Rattle.table.proofs.ActionLaws.{below_more, below_bad, below_none}
+use Rattle.table.specs.Records.{below}
+use borrow.Author.Rules.{rules}
+use mathlib.Core.Path.{◌≡◌, refl}
+use native.Mathlib.Omega.{arith}
+use Prim.Native.Nat.{◌+◌, ◌*◌, ◌≤◌}
+use lib.ListN.{length}
+use Rattle.table.proofs.actions.all_below.Given as goal
+
+abbrev pub invariant-loop-left : goal.invariant-loop-left
+invariant-loop-left l = (l.at + 2 * l.left ≤ length l.table) × (below l.m (numbers l.left l.table l.at) ≡ below l.m (numbers l.n l.table l.p))
+
+abbrev pub decreases-loop-left : goal.decreases-loop-left
+decreases-loop-left l = l.left

@@ -1,0 +1,8 @@
+-- `table::frame::middle_right` meets its contract. Assumes nothing.
+use Rattle.meaning.specs.TableRight.{middle_right}
+use borrow.Author.Rules.{rules}
+use Rattle.table.proofs.frame.middle_right.Goals as goal
+
+pub returns : goal.returns
+unfolding middle_right
+returns c = cc

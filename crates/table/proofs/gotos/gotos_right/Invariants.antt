@@ -1,0 +1,14 @@
+-- `table::gotos::gotos_right` meets its contract. Assumes nothing.
+use Rattle.meaning.specs.TableRight.{goto_format, field_right}
+use Rattle.table.proofs.Fields.{check_bad, check_end, check_more}
+use Rattle.table.proofs.GotoLaws.{goto_inside, goto_key, goto_bytes}
+use borrow.Author.Rules.{rules}
+use mathlib.Core.Path.{◌≡◌, refl}
+use Prim.Native.Nat.{◌-◌}
+use Rattle.table.proofs.gotos.gotos_right.Given as goal
+
+abbrev pub invariant-loop-at : goal.invariant-loop-at
+invariant-loop-at l = field_right (goto_format l.table l.counts) l.end l.low l.at ≡ field_right (goto_format l.table l.counts) l.end 0 l.from
+
+abbrev pub decreases-loop-at : goal.decreases-loop-at
+decreases-loop-at l = l.end - l.at
