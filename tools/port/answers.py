@@ -13,7 +13,7 @@ import shutil
 import sys
 
 NAME = r"[^\s(){}\[\];,.]+"
-norm = lambda s: s.replace("_", "-").replace("·", "-")
+norm = lambda s: s.replace("_", "-").replace("·", "-").lower()
 OLD = os.environ.get("OLD", "/tmp/old-proofs")
 
 
@@ -74,7 +74,20 @@ class Names:
         self.places = {p[0]: (i, p[1], p[2], p[3]) for i, p in enumerate(d["places"])}
 
     def step(self, place, back, fields):
-        """The new path of c.before^back.fields, or None."""
+        """The new path of c.before^back.fields: by its place, else by its name among the places before."""
+        if not fields or fields[0] in ("args", "requires", "ranges", "well-formed", "type_inv", "type-inv"):
+            return ["c"] + fields
+        got = self.at(place, back, fields)
+        p, n = place, 0
+        found = []
+        while got is None and p in self.places:
+            it = self.at(p, 0, fields)
+            if it and it not in found:
+                found.append(it)
+            p = self.places[p][1]
+        return got or (found[0] if len(found) == 1 else None)
+
+    def at(self, place, back, fields):
         p = place
         for _ in range(back):
             if p not in self.places or self.places[p][1] is None:
