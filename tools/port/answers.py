@@ -13,7 +13,7 @@ import shutil
 import sys
 
 NAME = r"[^\s(){}\[\];,.]+"
-norm = lambda s: s.replace("_", "-").replace("·", "-")
+norm = lambda s: s.replace("_", "-").replace("·", "-").lower()
 OLD = os.environ.get("OLD", "/tmp/old-proofs")
 
 
@@ -74,7 +74,20 @@ class Names:
         self.places = {p[0]: (i, p[1], p[2], p[3]) for i, p in enumerate(d["places"])}
 
     def step(self, place, back, fields):
-        """The new path of c.before^back.fields, or None."""
+        """The new path of c.before^back.fields: by its place, else by its name among the places before."""
+        if not fields or fields[0] in ("args", "requires", "ranges", "well-formed", "type_inv", "type-inv"):
+            return ["c"] + fields
+        got = self.at(place, back, fields)
+        p, n = place, 0
+        found = []
+        while got is None and p in self.places:
+            it = self.at(p, 0, fields)
+            if it and it not in found:
+                found.append(it)
+            p = self.places[p][1]
+        return got or (found[0] if len(found) == 1 else None)
+
+    def at(self, place, back, fields):
         p = place
         for _ in range(back):
             if p not in self.places or self.places[p][1] is None:
@@ -108,6 +121,28 @@ class Names:
 
 
 def turn_paths(body, names, place, bad, var="c"):
+    """Turns paths of `var`, of a `let` that stands for a place before, and of a `let` that stands for a call."""
+    aliases = re.findall(rf"let (\S+) = {re.escape(var)}((?:\.before)+) in", body)
+    body = turn_of(body, names, place, bad, var)
+    for a, back in aliases:
+        p = place
+        for _ in range(back.count(".before")):
+            p = names.places[p][1] if p in names.places and names.places[p][1] else p
+        body = turn_of(body, names, p, bad, a)
+    for a, at in re.findall(r"let (\S+) = \S+?\.([^\s.]+) in", body):
+        fn = [q[3] for q in names.d["places"] if q[2][1] == at and q[3]]
+        ps = names.d["params"].get(fn[0]) if fn else None
+        if ps:
+
+            def one(m):
+                n, used = tuple_index(m.group(2).split(".")[1:])
+                return f"{a}.{m.group(1)}.{ps[n]}" if n < len(ps) else m.group()
+
+            body = re.sub(rf"(?<![^\s(){{}}\[\];,]){re.escape(a)}\.(new|auto)((?:\.1)*\.0)", one, body)
+    return body
+
+
+def turn_of(body, names, place, bad, var):
     def one(m):
         parts = m.group().split(".")[1:]
         back = 0
@@ -234,10 +269,14 @@ def turn(dirname, module, d, crate):
         params = [p for p in params if p != "κs"]
         var = params[-1] if params else "c"
         body = turn_paths(body, names, place, bad, var)
+        if cycle:
+            # the measure's fact was the first part of the requires; tactics find it by themselves now
+            body = re.sub(rf"\n?[ ]*let \S+ = {re.escape(var)}\.requires\.0 in", "", body)
+            body = re.sub(rf"(?<![^\s(){{}}\[\];,]){re.escape(var)}\.requires\.1(?![0-9])", f"{var}.requires", body)
         left = re.search(rf"(?<![^\s(){{}}\[\];,]){re.escape(var)}\.before", body)
         if left:
             bad.append(f"{nn}: a path by before is left")
-        if body.strip() == "search rules":
+        if body.strip() == "search rules" and not unf:
             continue
         out_answers.append((i, "\n".join(com + [f"pub {nn} : goal.{nn}"] + unf + [f"{nn} {' '.join(params)} = {body}"])))
     for n, t, k in helpers:

@@ -8,7 +8,7 @@ use lib.Dec.{leb, ltb, leb-suc-suc}
 use borrow.Author.Tests.{lt-ltb, le-ltb}
 use Rattle.meaning.specs.Basics.{Maybe, nothing, just}
 use Rattle.std.specs.Prelude.{if◌then◌else◌}
-use Rattle.meaning.specs.Walk.{Walked, refused, walked, shift, end_chain}
+use Rattle.meaning.specs.Walk.{refused, walked, shift, end_chain}
 use Rattle.meaning.specs.declared.Refusal.TheVariants.{TooManyReadings}
 use Rattle.table.specs.declared.Action.{Action}
 use Rattle.chains.specs.Actions.{too_high}

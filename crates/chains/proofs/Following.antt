@@ -11,7 +11,7 @@ use Rattle.meaning.specs.Basics.{both, Maybe, nothing, just}
 use Rattle.meaning.specs.TableFile.{Table, table_of, action_of, rule_of}
 use Rattle.meaning.specs.TableRight.{shifts}
 use Rattle.meaning.specs.Chains.{record_at}
-use Rattle.meaning.specs.Walk.{Walk, shift, reduce, Walked, refused, walked, end_chain, walk_rules, walk_state, walk_from, plan, ends, size, chains}
+use Rattle.meaning.specs.Walk.{Walk, shift, reduce, refused, walked, end_chain, walk_rules, walk_state, walk_from, plan, ends, size, chains}
 use Rattle.meaning.specs.declared.Refusal.{Refusal}
 use Rattle.meaning.specs.declared.Refusal.TheVariants.{TooHigh, TooManyReadings}
 use Rattle.meaning.specs.declared.View.{View}

@@ -10,7 +10,7 @@ use lib.ListN.{length}
 use borrow.Author.Tests.{lt-ltb, le-ltb}
 use Rattle.std.specs.Prelude.{if◌then◌else◌}
 use Rattle.meaning.specs.TableFile.{Table}
-use Rattle.meaning.specs.Walk.{Walked, plan, chains}
+use Rattle.meaning.specs.Walk.{plan, chains}
 use Rattle.meaning.specs.Questions.{enough_room, planned, can_plan, or_else, recovers_from}
 use Rattle.meaning.specs.declared.Refusal.{Refusal}
 use Rattle.meaning.specs.declared.QuestionAnswer.{QuestionAnswer}

@@ -9,7 +9,7 @@ use borrow.Author.Tests.{le-leb, lt-leb, eq-eqb, ne_eqb, lt-ltb, le-ltb}
 use Rattle.meaning.specs.Basics.{Maybe, nothing, just}
 use Rattle.std.specs.Prelude.{if◌then◌else◌}
 use Rattle.meaning.specs.TableFile.{Table, state_no, goto_of, rule_of}
-use Rattle.meaning.specs.Walk.{Walked, refused, walked, or_no_goto, reduction}
+use Rattle.meaning.specs.Walk.{Walked, refused, or_no_goto, reduction}
 use Rattle.meaning.specs.declared.Rule.{Rule}
 use Rattle.meaning.specs.declared.StateNo.{StateNo}
 use Rattle.meaning.specs.declared.Refusal.TheVariants.{ReachesStart, NoGoto, TooHigh, ChainTooLong, WalkTooLong}

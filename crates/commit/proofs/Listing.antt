@@ -170,4 +170,6 @@ all_done cells w₀ w s at zero i n y =
       fresh = λ e a b. absurd (omega arith);
       rest = λ b h a. refl;
     }
-all_done cells w₀ w s at (suc k) i n y = done_more cells w₀ w s at k i n y _ (all_done cells w₀ _ _ at k (i + 1) _ (going_more cells w₀ w s at k i n y))
+all_done cells w₀ w s at (suc k) i n y =
+    let o = commit_one at w s i n in
+    done_more cells w₀ w s at k i n y (commit_from at k o.work o.state (i + 1) o.next) (all_done cells w₀ o.work o.state at k (i + 1) o.next (going_more cells w₀ w s at k i n y))

@@ -1,9 +1,7 @@
 -- `cells::down` meets its contract. Assumes nothing.
 use native.Mathlib.Omega.{arith}
-use borrow.Author.Rules.{rules}
 use mathlib.Core.Path.{◌≡◌, ◌∙◌}
 use Rattle.cells.proofs.Stacks.{in_room, in_under, down_none, down_more}
-use Prim.Native.Nat.{ℕ, ◌<◌}
 use Rattle.cells.proofs.+down.Goals as goal
 
 pub returns-then-k-eq0 : goal.returns-then-k-eq0

@@ -1,8 +1,6 @@
 -- `cells::holds_cell` meets its contract. Assumes nothing.
 use native.Mathlib.Omega.{arith}
-use borrow.Author.Rules.{rules}
 use Rattle.cells.proofs.Stacks.{in_room, in_under, holds_none, holds_here, holds_down}
-use Prim.Native.Nat.{ℕ, ◌<◌}
 use Rattle.cells.proofs.+holds_cell.Goals as goal
 
 pub returns-then-height-eq0 : goal.returns-then-height-eq0

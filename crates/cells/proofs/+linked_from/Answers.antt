@@ -1,9 +1,7 @@
 -- `cells::linked_from` meets its contract. Assumes nothing.
 use native.Mathlib.Omega.{arith}
-use borrow.Author.Rules.{rules}
 use mathlib.Core.Path.{◌∙◌}
 use Rattle.cells.proofs.Stacks.{linked_none, linked_out, linked_height, linked_state, linked_down}
-use Prim.Native.Nat.{ℕ, ◌<◌}
 use Rattle.cells.proofs.+linked_from.Goals as goal
 
 pub returns-then-height-eq0 : goal.returns-then-height-eq0

@@ -1,5 +1,4 @@
 -- `cells::entry_at` meets its contract. Assumes nothing.
-use borrow.Author.Rules.{rules}
 use Rattle.cells.proofs.entry_at.Goals as goal
 
 pub returns : goal.returns

@@ -1,6 +1,5 @@
 -- `cells::get_cell` meets its contract. Assumes nothing.
 use Rattle.cells.specs.Pool.{cell_at}
-use borrow.Author.Rules.{rules}
 use Rattle.cells.proofs.get_cell.Goals as goal
 
 pub returns : goal.returns

@@ -1,6 +1,5 @@
 -- `cells::put_cell` meets its contract. Assumes nothing.
 use Rattle.cells.specs.Pool.{put_cell}
-use borrow.Author.Rules.{rules}
 use Rattle.cells.proofs.put_cell.Goals as goal
 
 pub returns : goal.returns

@@ -1,6 +1,5 @@
 -- `chains::end_chain` meets its contract. Assumes nothing.
 use Rattle.chains.proofs.Endings.{ends_chain, ends_full, ends_none}
-use borrow.Author.Rules.{rules}
 use Rattle.chains.proofs.end_chain.Goals as goal
 
 pub returns-then-chains-room : goal.returns-then-chains-room

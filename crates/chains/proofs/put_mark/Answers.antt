@@ -1,6 +1,5 @@
 -- `chains::put_mark` meets its contract. Assumes nothing.
 use Rattle.chains.specs.Marks.{put_mark}
-use borrow.Author.Rules.{rules}
 use Rattle.chains.proofs.put_mark.Goals as goal
 
 pub returns : goal.returns

@@ -1,6 +1,5 @@
 -- `chains::too_high` meets its contract. Assumes nothing.
 use Rattle.chains.proofs.Endings.{too_high_lem}
-use borrow.Author.Rules.{rules}
 use Rattle.chains.proofs.too_high.Goals as goal
 
 pub returns-then-action : goal.returns-then-action

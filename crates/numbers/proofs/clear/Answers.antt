@@ -1,11 +1,7 @@
 -- `numbers::clear` meets its contract: the bytes passed are zero, the rest is as it was. Assumes nothing.
-use Rattle.numbers.specs.Zeros.{zeros, cleared}
+use Rattle.numbers.specs.Zeros.{cleared}
 use borrow.Author.Fill.{fill_more}
-use lib.ListN.{length, drop, length-set}
-use Prim.Native.Nat.{◌≤◌, ◌-◌}
-use mathlib.Core.List.{◌++◌}
-use mathlib.Core.Path.{◌≡◌}
-use borrow.Author.Rules.{rules}
+use lib.ListN.{length-set}
 use native.Mathlib.Omega.{arith}
 use Rattle.numbers.proofs.clear.Goals as goal
 

@@ -1,12 +1,9 @@
 -- `numbers::clear` meets its contract: the bytes passed are zero, the rest is as it was. Assumes nothing.
-use Rattle.numbers.specs.Zeros.{zeros, cleared}
-use borrow.Author.Fill.{fill_more}
-use lib.ListN.{length, drop, length-set}
+use Rattle.numbers.specs.Zeros.{zeros}
+use lib.ListN.{length, drop}
 use Prim.Native.Nat.{◌≤◌, ◌-◌}
 use mathlib.Core.List.{◌++◌}
 use mathlib.Core.Path.{◌≡◌}
-use borrow.Author.Rules.{rules}
-use native.Mathlib.Omega.{arith}
 use Rattle.numbers.proofs.clear.Given as goal
 
 abbrev pub invariant-loop-i : goal.invariant-loop-i

@@ -1,7 +1,6 @@
 -- `numbers::get32` meets its contract. Assumes nothing.
 use Rattle.meaning.specs.Bytes.{u32_at}
 use native.Mathlib.Omega.{arith}
-use borrow.Author.Rules.{rules}
 use Rattle.numbers.proofs.get32.Goals as goal
 
 pub returns : goal.returns

@@ -3,7 +3,6 @@ use Rattle.numbers.specs.Writing.{put_u16}
 use mathlib.Core.Path.{refl}
 use native.Mathlib.Omega.{arith}
 use lib.ListN.{length-set}
-use borrow.Author.Rules.{rules}
 use Rattle.numbers.proofs.put16.Goals as goal
 
 pub bounds-bytes-i-2 : goal.bounds-bytes-i-2

@@ -1,6 +1,5 @@
 -- `numbers::put32` meets its contract. Assumes nothing.
 use Rattle.numbers.specs.Writing.{put_u32}
-use borrow.Author.Rules.{rules}
 use Rattle.numbers.proofs.put32.Goals as goal
 
 pub returns : goal.returns

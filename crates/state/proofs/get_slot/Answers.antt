@@ -1,6 +1,5 @@
 -- `state::get_slot` meets its contract. Assumes nothing.
 use Rattle.state.specs.Readings.{slot_at}
-use borrow.Author.Rules.{rules}
 use Rattle.state.proofs.get_slot.Goals as goal
 
 pub returns : goal.returns

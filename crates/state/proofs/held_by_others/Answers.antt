@@ -1,7 +1,6 @@
 -- `state::held_by_others` meets its contract. Assumes nothing.
 use mathlib.Core.Path.{◌∙◌}
 use Rattle.state.proofs.Holding.{held_left, held_right}
-use borrow.Author.Rules.{rules}
 use Rattle.state.proofs.held_by_others.Goals as goal
 
 pub returns-then-held_by : goal.returns-then-held_by

@@ -1,11 +1,8 @@
 -- `state::load` meets its contract. Assumes nothing.
-use native.Mathlib.Omega.{arith}
-use borrow.Author.Rules.{rules}
 use mathlib.Core.List.{◌++◌}
-use mathlib.Core.Path.{◌≡◌, refl}
+use mathlib.Core.Path.{◌≡◌}
 use Prim.Native.Nat.{◌≤◌, ◌-◌}
-use lib.ListN.{length, take, drop, length-set}
-use Rattle.state.proofs.Loading.{load_more, load_done}
+use lib.ListN.{length, take, drop}
 use Rattle.state.proofs.load.Given as goal
 
 abbrev pub invariant-loop-i : goal.invariant-loop-i

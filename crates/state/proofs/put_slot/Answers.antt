@@ -1,6 +1,5 @@
 -- `state::put_slot` meets its contract. Assumes nothing.
 use Rattle.state.specs.Readings.{put_slot}
-use borrow.Author.Rules.{rules}
 use Rattle.state.proofs.put_slot.Goals as goal
 
 pub returns : goal.returns

@@ -1,6 +1,5 @@
 -- `state::start_state` meets its contract. Assumes nothing.
 use Rattle.state.proofs.Starting.{started}
-use borrow.Author.Rules.{rules}
 use Rattle.state.proofs.start_state.Goals as goal
 
 pub returns : goal.returns

@@ -2,7 +2,6 @@
 use native.Mathlib.Omega.{arith}
 use mathlib.Core.Path.{◌∙◌}
 use Rattle.state.proofs.Checking.{valid_count, valid_used, valid_slots}
-use borrow.Author.Rules.{rules}
 use Rattle.state.proofs.valid_state.Goals as goal
 
 pub returns-then-count-gt-MAX_READINGS : goal.returns-then-count-gt-MAX_READINGS
@@ -12,4 +11,4 @@ pub returns-then-used-gt-STATE_CELLS : goal.returns-then-used-gt-STATE_CELLS
 returns-then-used-gt-STATE_CELLS c = valid_used _ _ _ c.reading_count-count.ensures _ c.cells_in_use-used.ensures (omega arith)
 
 pub returns : goal.returns
-returns c = c.List-right.ensures ∙ search (valid_slots)
+returns c = c.list_right.ensures ∙ search (valid_slots)

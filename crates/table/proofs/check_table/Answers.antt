@@ -1,6 +1,5 @@
 -- `table::check_table` meets its contract. Assumes nothing.
 use Rattle.table.proofs.Checking.{framed, actions_sound, check_right, check_start, check_content, check_frame}
-use borrow.Author.Rules.{rules}
 use Rattle.table.proofs.check_table.Goals as goal
 
 pub content_right-requires : goal.content_right-requires

@@ -1,6 +1,5 @@
 -- `table::content_right` meets its contract. Assumes nothing.
 use Rattle.meaning.specs.TableRight.{content_right}
-use borrow.Author.Rules.{rules}
 use Rattle.table.proofs.content_right.Goals as goal
 
 pub returns : goal.returns

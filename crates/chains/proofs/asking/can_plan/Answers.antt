@@ -1,6 +1,5 @@
 -- `chains::asking::can_plan` meets its contract. Assumes nothing.
 use Rattle.chains.proofs.Questions.{can_refused, can_yes, can_no}
-use borrow.Author.Rules.{rules}
 use Rattle.chains.proofs.asking.can_plan.Goals as goal
 
 pub returns-then-chains-gt0 : goal.returns-then-chains-gt0

@@ -1,7 +1,6 @@
 -- `chains::asking::recovers_from` meets its contract. The loop keeps that the heights left decide; the measure is how many they are. Assumes nothing.
 use Rattle.meaning.specs.TableFile.{table_of}
-use Rattle.chains.proofs.Questions.{Recovering, recovers_none, recovers_yes, recovers_refused, recovers_on}
-use borrow.Author.Rules.{rules}
+use Rattle.chains.proofs.Questions.{Recovering}
 use Rattle.chains.proofs.asking.recovers_from.Given as goal
 
 abbrev pub invariant-loop-left : goal.invariant-loop-left

@@ -1,6 +1,5 @@
 -- `can_plan_stack`: the array that is filled stands for the stack.
 use Rattle.chains.proofs.Filled.{stack_asked}
-use borrow.Author.Rules.{rules}
 use Rattle.chains.proofs.filling.can_plan_stack.Goals as goal
 
 pub returns : goal.returns

@@ -1,6 +1,5 @@
 -- `recovers_stack`: the array that is filled stands for the stack.
 use Rattle.chains.proofs.Filled.{stack_recovers}
-use borrow.Author.Rules.{rules}
 use Rattle.chains.proofs.filling.recovers_stack.Goals as goal
 
 pub returns : goal.returns

@@ -1,6 +1,5 @@
 -- `chains::reducing::reduce_by` meets its contract: a law for each way out. Assumes nothing.
 use Rattle.chains.proofs.Reductions.{reduce_10, reduce_9, reduce_6, reduce_7, reduce_8, reduce_to}
-use borrow.Author.Rules.{rules}
 use Rattle.chains.proofs.reducing.reduce_by.Goals as goal
 
 pub returns-then-at-ge-MAX_WALKED : goal.returns-then-at-ge-MAX_WALKED

@@ -1,6 +1,5 @@
 -- `chains::reducing::top` meets its contract. Assumes nothing.
 use Rattle.chains.proofs.Arrays.{top_stack_of}
-use borrow.Author.Rules.{rules}
 use Rattle.chains.proofs.reducing.top.Goals as goal
 
 pub returns : goal.returns

@@ -1,5 +1,5 @@
 -- `errors::fill`: one more is stored, and there is a place for it.
-use Rattle.std.proofs.Common.{◌≡◌, ◌≤◌, length, arith}
+use Rattle.std.proofs.Common.{◌≡◌, length, arith}
 use Rattle.meaning.specs.Limits.{max_errors}
 use Rattle.lists.specs.Filling.{no_record, stored}
 use Rattle.lists.proofs.Laws.{stored_fits, filled_one}

@@ -1,10 +1,7 @@
 -- `state::check::slots_right` meets its contract. Assumes nothing.
 use native.Mathlib.Omega.{arith}
-use borrow.Author.Rules.{rules}
 use mathlib.Core.Path.{◌∙◌}
 use Rattle.state.proofs.Checking.{slots_none, slots_bad, slots_good, ready_first, ready_rest}
-use Prim.Native.Nat.{ℕ, ◌<◌}
-use Rattle.state.proofs.check.+slots_right.{statement}
 use Rattle.state.proofs.check.+slots_right.Goals as goal
 
 pub returns-then-left-eq0 : goal.returns-then-left-eq0

@@ -1,6 +1,5 @@
 -- `table::actions::action_at` meets its contract. Assumes nothing.
 use Rattle.table.proofs.ActionLaws.{action_made}
-use borrow.Author.Rules.{rules}
 use Rattle.table.proofs.actions.action_at.Goals as goal
 
 pub returns : goal.returns

@@ -1,6 +1,5 @@
 -- `table::actions::action_right` meets its contract. Assumes nothing.
 use Rattle.table.proofs.ActionLaws.{action_tested}
-use borrow.Author.Rules.{rules}
 use Rattle.table.proofs.actions.action_right.Goals as goal
 
 pub returns : goal.returns

@@ -1,6 +1,5 @@
 -- `table::actions::action_test` meets its contract. Assumes nothing.
 use Rattle.table.proofs.ActionLaws.{action_short, action_fits}
-use borrow.Author.Rules.{rules}
 use Rattle.table.proofs.actions.action_test.Goals as goal
 
 pub returns-then-end-next : goal.returns-then-end-next

@@ -1,10 +1,7 @@
 -- `table::actions::actions_right` meets its contract. Assumes nothing.
-use Rattle.meaning.specs.TableRight.{action_format, field_right}
 use Rattle.table.proofs.ActionLaws.{action_inside, action_key, action_bytes}
 use Rattle.table.proofs.Fields.{check_bad, check_end, check_more}
-use borrow.Author.Rules.{rules}
-use mathlib.Core.Path.{◌≡◌, refl}
-use Prim.Native.Nat.{◌-◌}
+use mathlib.Core.Path.{refl}
 use Rattle.table.proofs.actions.actions_right.Goals as goal
 
 pub loop-at-init : goal.loop-at-init

@@ -1,9 +1,6 @@
 -- `table::actions::actions_right` meets its contract. Assumes nothing.
 use Rattle.meaning.specs.TableRight.{action_format, field_right}
-use Rattle.table.proofs.ActionLaws.{action_inside, action_key, action_bytes}
-use Rattle.table.proofs.Fields.{check_bad, check_end, check_more}
-use borrow.Author.Rules.{rules}
-use mathlib.Core.Path.{◌≡◌, refl}
+use mathlib.Core.Path.{◌≡◌}
 use Prim.Native.Nat.{◌-◌}
 use Rattle.table.proofs.actions.actions_right.Given as goal
 

@@ -1,12 +1,7 @@
 -- `table::actions::all_below` meets its contract. Assumes nothing.
-use Rattle.meaning.specs.TableFile.{numbers}
 use Rattle.table.proofs.ActionLaws.{below_more, below_bad, below_none}
-use Rattle.table.specs.Records.{below}
-use borrow.Author.Rules.{rules}
-use mathlib.Core.Path.{◌≡◌, refl}
+use mathlib.Core.Path.{refl}
 use native.Mathlib.Omega.{arith}
-use Prim.Native.Nat.{◌+◌, ◌*◌, ◌≤◌}
-use lib.ListN.{length}
 use Rattle.table.proofs.actions.all_below.Goals as goal
 
 pub loop-left-init : goal.loop-left-init

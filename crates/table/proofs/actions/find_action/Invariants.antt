@@ -1,14 +1,8 @@
 -- `table::actions::find_action` meets its contract: no record passed has the pair that is wanted, and what is left is right. Assumes nothing.
-use mathlib.Core.Path.{ap, ◌∙◌}
 use Prim.Native.Nat.{◌-◌}
-use native.Mathlib.Omega.{arith}
-use borrow.Author.Rules.{rules}
-use Rattle.meaning.specs.TableFile.{action_at, no_record}
+use Rattle.meaning.specs.TableFile.{no_record}
 use Rattle.meaning.specs.TableRight.{action_format}
-use Rattle.table.specs.Answers.{actionAnswer}
 use Rattle.table.specs.Records.{Scan}
-use Rattle.table.proofs.ActionLaws.{action_key, action_bytes}
-use Rattle.table.proofs.Search.{scan_start, scan_end, scan_fits, scan_found, scan_past, scan_next}
 use Rattle.table.proofs.actions.find_action.Given as goal
 
 abbrev pub invariant-loop-at : goal.invariant-loop-at

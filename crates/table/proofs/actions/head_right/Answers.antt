@@ -1,6 +1,5 @@
 -- `table::actions::head_right` meets its contract. Assumes nothing.
 use Rattle.table.proofs.ActionLaws.{head_none, head_some}
-use borrow.Author.Rules.{rules}
 use Rattle.table.proofs.actions.head_right.Goals as goal
 
 pub returns-then-to-eq-NO_SHIFT : goal.returns-then-to-eq-NO_SHIFT

@@ -1,6 +1,5 @@
 -- `table::actions::number_at` meets its contract. Assumes nothing.
 use Rattle.table.proofs.ActionLaws.{number_found, number_out}
-use borrow.Author.Rules.{rules}
 use Rattle.table.proofs.actions.number_at.Goals as goal
 
 pub returns-then-i-n : goal.returns-then-i-n

@@ -1,6 +1,5 @@
 -- `table::frame::back_right` meets its contract. Assumes nothing.
 use Rattle.meaning.specs.TableRight.{back_right}
-use borrow.Author.Rules.{rules}
 use Rattle.table.proofs.frame.back_right.Goals as goal
 
 pub returns : goal.returns

@@ -1,6 +1,5 @@
 -- `table::frame::counts_of` meets its contract. Assumes nothing.
 use Rattle.meaning.specs.TableFile.{counts_of}
-use borrow.Author.Rules.{rules}
 use Rattle.table.proofs.frame.counts_of.Goals as goal
 
 pub returns : goal.returns

@@ -1,6 +1,5 @@
 -- `table::frame::counts_right` meets its contract. Assumes nothing.
 use Rattle.meaning.specs.TableRight.{counts_right}
-use borrow.Author.Rules.{rules}
 use Rattle.table.proofs.frame.counts_right.Goals as goal
 
 pub returns : goal.returns

@@ -1,7 +1,6 @@
 -- `table::frame::field_at` meets its contract. Assumes nothing.
 use Rattle.meaning.specs.TableFile.{field_at}
 use native.Mathlib.Omega.{arith}
-use borrow.Author.Rules.{rules}
 use Rattle.table.proofs.frame.field_at.Goals as goal
 
 pub returns : goal.returns

@@ -1,6 +1,5 @@
 -- `table::frame::frame_right` meets its contract. Assumes nothing.
 use Rattle.meaning.specs.TableRight.{frame_right}
-use borrow.Author.Rules.{rules}
 use Rattle.table.proofs.frame.frame_right.Goals as goal
 
 pub returns : goal.returns

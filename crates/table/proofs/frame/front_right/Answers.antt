@@ -1,6 +1,5 @@
 -- `table::frame::front_right` meets its contract. Assumes nothing.
 use Rattle.meaning.specs.TableRight.{front_right}
-use borrow.Author.Rules.{rules}
 use Rattle.table.proofs.frame.front_right.Goals as goal
 
 pub returns : goal.returns

@@ -1,6 +1,5 @@
 -- `table::frame::shape_right` meets its contract. Assumes nothing.
 use Rattle.meaning.specs.TableRight.{shape_right}
-use borrow.Author.Rules.{rules}
 use Rattle.table.proofs.frame.shape_right.Goals as goal
 
 pub returns : goal.returns

@@ -1,7 +1,6 @@
 -- `table::frame::view_of` meets its contract. Assumes nothing.
 use Rattle.meaning.specs.TableFile.{view_of}
 use native.Mathlib.Omega.{arith}
-use borrow.Author.Rules.{rules}
 use Rattle.table.proofs.frame.view_of.Goals as goal
 
 pub returns : goal.returns

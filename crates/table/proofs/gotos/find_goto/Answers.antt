@@ -1,11 +1,8 @@
 -- `table::gotos::find_goto` meets its contract: no record passed has the pair that is wanted, and what is left is right. Assumes nothing.
-use Prim.Native.Nat.{◌-◌}
 use native.Mathlib.Omega.{arith}
 use borrow.Author.Rules.{rules}
-use Rattle.meaning.specs.Basics.{nothing, just}
 use Rattle.meaning.specs.TableFile.{goto_at}
 use Rattle.meaning.specs.TableRight.{goto_format}
-use Rattle.table.specs.Records.{Scan}
 use Rattle.table.proofs.GotoLaws.{goto_key, goto_bytes, answer_to, answer_nothing}
 use Rattle.table.proofs.Search.{scan_start, scan_end, scan_fits, scan_found, scan_past, scan_next}
 use Rattle.table.proofs.gotos.find_goto.Goals as goal

@@ -1,7 +1,6 @@
 -- `table::gotos::goto_right` meets its contract. Assumes nothing.
 use Rattle.meaning.specs.TableFile.{goto_at}
 use Rattle.meaning.specs.TableRight.{goto_right}
-use borrow.Author.Rules.{rules}
 use Rattle.table.proofs.gotos.goto_right.Goals as goal
 
 pub returns : goal.returns

@@ -1,6 +1,5 @@
 -- `table::gotos::goto_test` meets its contract. Assumes nothing.
 use Rattle.table.proofs.GotoLaws.{goto_short, goto_fits}
-use borrow.Author.Rules.{rules}
 use Rattle.table.proofs.gotos.goto_test.Goals as goal
 
 pub returns-then-end-p : goal.returns-then-end-p

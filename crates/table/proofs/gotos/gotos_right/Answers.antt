@@ -1,10 +1,7 @@
 -- `table::gotos::gotos_right` meets its contract. Assumes nothing.
-use Rattle.meaning.specs.TableRight.{goto_format, field_right}
 use Rattle.table.proofs.Fields.{check_bad, check_end, check_more}
 use Rattle.table.proofs.GotoLaws.{goto_inside, goto_key, goto_bytes}
-use borrow.Author.Rules.{rules}
-use mathlib.Core.Path.{◌≡◌, refl}
-use Prim.Native.Nat.{◌-◌}
+use mathlib.Core.Path.{refl}
 use Rattle.table.proofs.gotos.gotos_right.Goals as goal
 
 pub loop-at-init : goal.loop-at-init

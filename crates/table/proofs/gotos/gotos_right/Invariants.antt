@@ -1,9 +1,6 @@
 -- `table::gotos::gotos_right` meets its contract. Assumes nothing.
 use Rattle.meaning.specs.TableRight.{goto_format, field_right}
-use Rattle.table.proofs.Fields.{check_bad, check_end, check_more}
-use Rattle.table.proofs.GotoLaws.{goto_inside, goto_key, goto_bytes}
-use borrow.Author.Rules.{rules}
-use mathlib.Core.Path.{◌≡◌, refl}
+use mathlib.Core.Path.{◌≡◌}
 use Prim.Native.Nat.{◌-◌}
 use Rattle.table.proofs.gotos.gotos_right.Given as goal
 

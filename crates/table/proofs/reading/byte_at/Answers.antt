@@ -1,7 +1,6 @@
 -- `table::reading::byte_at` meets its contract. Assumes nothing.
 use mathlib.Core.Path.{sym}
 use lib.ListN.{get_or-eq_default}
-use borrow.Author.Rules.{rules}
 use Rattle.table.proofs.reading.byte_at.Goals as goal
 
 pub returns-else-i-table : goal.returns-else-i-table

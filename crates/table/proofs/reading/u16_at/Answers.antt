@@ -1,7 +1,6 @@
 -- `table::reading::u16_at` meets its contract. Assumes nothing.
 use Rattle.meaning.specs.Bytes.{u16_at}
 use native.Mathlib.Omega.{arith}
-use borrow.Author.Rules.{rules}
 use Rattle.table.proofs.reading.u16_at.Goals as goal
 
 pub returns : goal.returns

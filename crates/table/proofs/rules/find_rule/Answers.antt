@@ -1,6 +1,5 @@
 -- `table::rules::find_rule` meets its contract. Assumes nothing.
 use Rattle.table.proofs.RuleLaws.{rule_found, rule_out}
-use borrow.Author.Rules.{rules}
 use Rattle.table.proofs.rules.find_rule.Goals as goal
 
 pub returns-then-number-n : goal.returns-then-number-n

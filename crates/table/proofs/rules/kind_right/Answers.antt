@@ -1,6 +1,5 @@
 -- `table::rules::kind_right` meets its contract. Assumes nothing.
 use Rattle.table.proofs.RuleLaws.{kind_0, kind_1, kind_2, kind_3, kind_more}
-use borrow.Author.Rules.{rules}
 use Rattle.table.proofs.rules.kind_right.Goals as goal
 
 pub returns-then-r-eq0 : goal.returns-then-r-eq0

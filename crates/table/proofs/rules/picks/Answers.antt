@@ -1,6 +1,5 @@
 -- `table::rules::picks` meets its contract. Assumes nothing.
 use Rattle.meaning.specs.TableRight.{picks}
-use borrow.Author.Rules.{rules}
 use Rattle.table.proofs.rules.picks.Goals as goal
 
 pub returns : goal.returns

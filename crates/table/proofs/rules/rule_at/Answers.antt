@@ -1,6 +1,5 @@
 -- `table::rules::rule_at` meets its contract. Assumes nothing.
 use Rattle.meaning.specs.TableFile.{rule_at}
-use borrow.Author.Rules.{rules}
 use Rattle.table.proofs.rules.rule_at.Goals as goal
 
 pub returns : goal.returns

@@ -1,6 +1,5 @@
 -- `table::rules::rule_right` meets its contract. Assumes nothing.
 use Rattle.meaning.specs.TableRight.{rule_right}
-use borrow.Author.Rules.{rules}
 use Rattle.table.proofs.rules.rule_right.Goals as goal
 
 pub returns : goal.returns

@@ -1,13 +1,7 @@
 -- `table::rules::rules_right` meets its contract. Assumes nothing.
-use Rattle.meaning.specs.Basics.{every}
-use Rattle.meaning.specs.TableFile.{rules_from}
-use Rattle.meaning.specs.TableRight.{rule_right}
 use Rattle.table.proofs.RuleLaws.{rules_more, rules_bad, rules_none}
-use borrow.Author.Rules.{rules}
-use mathlib.Core.Path.{◌≡◌, refl}
+use mathlib.Core.Path.{refl}
 use native.Mathlib.Omega.{arith}
-use Prim.Native.Nat.{◌+◌, ◌*◌, ◌≤◌}
-use lib.ListN.{length}
 use Rattle.table.proofs.rules.rules_right.Goals as goal
 
 pub loop-left-init : goal.loop-left-init
