@@ -8,7 +8,6 @@ ghost use Rattle.table.specs.Answers.{Belongs};
 
 use cells::Cell;
 use chains::Planned;
-use libc::STDOUT_FILENO;
 use meaning::{CellNo, QuestionAnswer, StateNo, View};
 use table::Checked;
 
@@ -17,12 +16,12 @@ const ROOM: usize = meaning::MAX_CHAINS;
 // So many marks are shown.
 const SHOWN: usize = 4;
 
-fn say(text: &[u8]) {
-    io::write_all(STDOUT_FILENO, text);
+fn say(rt: &HostRuntime, text: &[u8]) {
+    let _ = rt.write_all(text);
 }
 
-fn say_number(n: usize) {
-    io::print_decimal(STDOUT_FILENO, n as u64);
+fn say_number(rt: &HostRuntime, n: usize) {
+    let _ = rt.print(n);
 }
 
 fn byte(x: u8) -> usize {
