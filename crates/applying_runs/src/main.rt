@@ -10,18 +10,17 @@ ghost use Rattle.applying_runs.specs.Found.{Found, Ready};
 use actions::{Counts, Top};
 use cells::Cell;
 use chains::Planned;
-use libc::STDOUT_FILENO;
 use meaning::{CellNo, Refusal, StateNo, Term, View};
 use table::Checked;
 
 const ROOM: usize = meaning::MAX_CHAINS;
 
-fn say(text: &[u8]) {
-    io::write_all(STDOUT_FILENO, text);
+fn say(rt: &HostRuntime, text: &[u8]) {
+    let _ = rt.write_all(text);
 }
 
-fn say_number(n: u32) {
-    io::print_decimal(STDOUT_FILENO, n as u64);
+fn say_number(rt: &HostRuntime, n: u32) {
+    let _ = rt.print(n);
 }
 
 fn wide(x: u16) -> u32 {

@@ -1,15 +1,12 @@
 -- Bytes and lines of the input, by the ways out of the code. Assumes nothing.
-use mathlib.Core.Path.{◌≡◌, refl, ap}
-use mathlib.Core.Bool.{Bool, true, false}
+use mathlib.Core.Path.{◌≡◌, refl}
 use mathlib.Core.Logic.{◌⊎◌, inl, inr}
 use mathlib.Core.List.{List}
 use Prim.Native.Nat.{ℕ, ◌+◌, ◌-◌, ◌<◌, ◌≤◌}
 use native.Mathlib.Omega.{arith}
 use lib.Dec.{eqb, ltb}
 use lib.ListN.{length, get_or, set, get_or-eq_default}
-use borrow.Author.Tests.{eq-eqb, ne_eqb, ltb-false, lt-ltb, le-ltb}
-use Rattle.meaning.specs.Basics.{both}
-use Rattle.std.specs.Prelude.{if◌then◌else◌}
+use borrow.Author.Tests.{eq-eqb, ne_eqb, lt-ltb, le-ltb}
 use Rattle.meaning.proofs.Booleans.{both_true, both_false}
 use Rattle.console.specs.Input.{line_room, piece_room, begun_by, Refilled, Fetched, PutIs, without_return, ended_line, ended_input}
 use Rattle.console.specs.declared.lines.Rest.{Rest}

@@ -1,16 +1,16 @@
 -- Blanks at a place of a line, at its front and at its end, by the ways out of the code. Assumes nothing.
-use mathlib.Core.Path.{◌≡◌, refl, sym, ap, ◌∙◌}
+use mathlib.Core.Path.{◌≡◌, sym, ap, ◌∙◌}
 use mathlib.Core.Bool.{Bool, true, false, not}
 use mathlib.Core.List.{List, [], ◌∷◌, ◌++◌}
-use Prim.Native.Nat.{ℕ, zero, suc, ◌+◌, ◌-◌, ◌<◌, ◌≤◌}
+use Prim.Native.Nat.{ℕ, suc, ◌+◌, ◌-◌, ◌<◌, ◌≤◌}
 use native.Mathlib.Omega.{arith}
 use lib.Dec.{eqb}
 use lib.ListN.{length, get_or, take, drop, length-drop, drop_of_length-le}
 use lib.Seq.{drop-cons, drop-length, take_all, take-suc, take-length, length-take-le}
 use borrow.Author.Tests.{eq-eqb, ne_eqb}
-use Rattle.meaning.specs.Basics.{both, either}
+use Rattle.meaning.specs.Basics.{both}
 use Rattle.std.specs.Prelude.{if◌then◌else◌}
-use Rattle.meaning.proofs.Booleans.{both_false, not_no, not_yes}
+use Rattle.meaning.proofs.Booleans.{not_no, not_yes}
 use Rattle.console.specs.Text.{is_blank, blanks, past_blanks, text_end, first_of, trimmed_of}
 
 -- A byte.

@@ -1,5 +1,5 @@
 -- Lines of the input: the bytes that are taken in one after the other, how a line takes them, and what it ends as. That the bytes are those of standard input no contract can say: what a read put into the piece is here as it is found there.
-use Rattle.std.specs.Prelude.{◌≡◌, Bool, true, false, not, ◌⊎◌, List, [], ◌∷◌, ◌++◌, ℕ, ◌+◌, ◌-◌, ◌<◌, ◌≤◌, eqb, ltb, length, get_or, set, take}
+use Rattle.std.specs.Prelude.{◌≡◌, true, not, ◌⊎◌, List, [], ◌∷◌, ◌++◌, ℕ, ◌+◌, ◌-◌, ◌<◌, ◌≤◌, eqb, ltb, length, get_or, set, take}
 use Rattle.std.proofs.lemmas.List.Edits.{sets}
 use Rattle.meaning.specs.Basics.{both, every}
 use Rattle.std.specs.Prelude.{if◌then◌else◌}

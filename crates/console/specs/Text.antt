@@ -1,5 +1,5 @@
 -- What stands in a line of text: words, numbers in decimal with blanks between two, terms.
-use Rattle.std.specs.Prelude.{◌≡◌, Bool, true, false, List, [], ◌∷◌, ℕ, suc, ◌+◌, ◌-◌, ◌*◌, ◌<◌, ◌≤◌, eqb, ltb, leb, length, get_or, take, drop}
+use Rattle.std.specs.Prelude.{◌≡◌, Bool, true, false, List, [], ◌∷◌, ℕ, suc, ◌+◌, ◌-◌, ◌*◌, ◌<◌, ◌≤◌, eqb, ltb, leb, length, take, drop}
 use Rattle.meaning.specs.Basics.{both, either, isNil}
 use Rattle.std.specs.Prelude.{if◌then◌else◌}
 use Rattle.console.specs.declared.words.Number.{Number}

@@ -4,6 +4,7 @@ ghost use Rattle.console.specs.Text.{is_blank, past_blanks, text_end, trimmed_of
 
 use super::lines::first;
 
+#[tactic(auto, using(crate::proofs::Trimming::blank_is, crate::proofs::Trimming::blank_else))]
 fn is_blank(byte: u8) -> bool
     ensures { result ≡ is_blank byte }
 {
@@ -14,6 +15,7 @@ fn is_blank(byte: u8) -> bool
 }
 
 // Past the blanks that stand from a place on.
+#[tactic(auto, using(crate::proofs::Trimming::blanks_stop, crate::proofs::Trimming::blanks_on, crate::proofs::Trimming::blanks_over))]
 pub fn past_blanks(line: &[u8], at: usize) -> usize
     ensures { result ≡ past_blanks line.now at }
 {
@@ -28,6 +30,7 @@ pub fn past_blanks(line: &[u8], at: usize) -> usize
 }
 
 // Where the blanks at the line's end begin.
+#[tactic(auto, using(crate::proofs::Trimming::end_on, crate::proofs::Trimming::end_over))]
 fn text_end(line: &[u8]) -> usize
     ensures { result ≡ text_end line.now }
 {
@@ -42,6 +45,7 @@ fn text_end(line: &[u8]) -> usize
 }
 
 // The bytes from a place on; none past their end.
+#[tactic(auto, using(crate::proofs::Trimming::from_there, crate::proofs::Trimming::from_past))]
 pub fn from(bytes: &[u8], at: usize) -> &[u8]
     ensures { result.now ≡ drop at bytes.now }
 {
@@ -54,6 +58,7 @@ pub fn from(bytes: &[u8], at: usize) -> &[u8]
 }
 
 // The line without the blanks at its front and at its end.
+#[tactic(auto, using(crate::proofs::Trimming::trimmed_is))]
 pub fn trimmed(line: &[u8]) -> &[u8]
     ensures { result.now ≡ trimmed_of line.now }
 {

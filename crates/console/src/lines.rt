@@ -3,7 +3,7 @@ ghost use Rattle.std.specs.Prelude.{◌≡◌};
 ghost use Rattle.console.specs.Input.{begun_by, Refilled, Fetched, PutIs, without_return, ended_line, ended_input, LineIs};
 ghost use Rattle.console.specs.Text.{first_of};
 
-use libc::STDIN_FILENO;
+use std::io::Read;
 
 // A piece of the input, and a line of it: at most a table file of 65,536 bytes in hexadecimal, and a word.
 pub type Piece = [u8; PIECE];
@@ -15,20 +15,20 @@ pub const PIECE: usize = 65536;
 pub const LINE: usize = 131100;
 
 // What of the piece is still to be read.
-#[derive(Drop)]
+#[derive(Clone, Copy)]
 pub struct Rest {
     at: usize,
     end: usize,
 }
 
-#[derive(Drop)]
+#[derive(Clone, Copy)]
 enum Byte {
     Is { byte: u8, rest: Rest },
     End,
 }
 
 // A line of so many bytes, one that is too long for its place, or the end of the input.
-#[derive(Drop)]
+#[derive(Clone, Copy)]
 pub enum Next {
     Line { length: usize, rest: Rest },
     TooLong { rest: Rest },
@@ -36,6 +36,7 @@ pub enum Next {
 }
 
 // The first n bytes; none where there are fewer.
+#[tactic(auto, using(crate::proofs::Text::first_some, crate::proofs::Text::first_none))]
 pub fn first(bytes: &[u8], n: usize) -> &[u8]
     ensures { result.now ≡ first_of bytes.now n }
 {
@@ -54,6 +55,7 @@ pub fn nothing() -> Rest
 }
 
 // The first byte of a piece of which so many bytes were read.
+#[tactic(auto, using(crate::proofs::Input::begun_end, crate::proofs::Input::begun_byte))]
 fn begun(piece: &Piece, end: usize) -> Byte
     ensures { result ≡ begun_by piece.now end }
 {
@@ -66,23 +68,25 @@ fn begun(piece: &Piece, end: usize) -> Byte
     }
 }
 
-// The next piece's first byte.
-fn refill(piece: &mut Piece) -> Byte
+// The next piece's first byte. What cannot be read counts as the end of the input.
+#[tactic(auto, using(crate::proofs::Input::refilled))]
+fn refill(rt: &HostRuntime, piece: &mut Piece) -> Byte
     ensures { Refilled piece.new result }
 {
-    let end = io::count(libc::read(STDIN_FILENO, &mut *piece), piece);
+    let end = rt.stdin().read(&mut *piece).unwrap_or(0);
     begun(piece, end)
 }
 
-fn next_byte(piece: &mut Piece, rest: Rest) -> Byte
+#[tactic(auto, using(crate::proofs::Input::piece_over, crate::proofs::Input::piece_past, crate::proofs::Input::piece_there))]
+fn next_byte(rt: &HostRuntime, piece: &mut Piece, rest: Rest) -> Byte
     ensures { Fetched piece.old rest result piece.new }
 {
     let at = rest.at;
     if rest.end <= at {
-        return refill(piece);
+        return refill(rt, piece);
     }
     if PIECE <= at {
-        return refill(piece);
+        return refill(rt, piece);
     }
     Byte::Is {
         byte: piece[at],
@@ -94,6 +98,7 @@ fn next_byte(piece: &mut Piece, rest: Rest) -> Byte
 }
 
 // A line too long for its place is cut, and counts one byte more than the place has.
+#[tactic(auto, using(crate::proofs::Input::put_there, crate::proofs::Input::put_past))]
 fn put(line: &mut Line, length: usize, byte: u8) -> usize
     ensures { PutIs line.old length byte result line.new }
 {
@@ -105,6 +110,7 @@ fn put(line: &mut Line, length: usize, byte: u8) -> usize
 }
 
 // How long a line is without a carriage return at its end, which some systems put before the line feed.
+#[tactic(auto, using(crate::proofs::Input::nothing_cut, crate::proofs::Input::return_cut, crate::proofs::Input::no_return, crate::proofs::Input::past_line))]
 fn without_return(line: &[u8], length: usize) -> usize
     ensures { result ≡ without_return line.now length }
 {
@@ -120,6 +126,7 @@ fn without_return(line: &[u8], length: usize) -> usize
     length
 }
 
+#[tactic(auto, using(crate::proofs::Input::line_too_long, crate::proofs::Input::line_is))]
 fn ended_line(line: &[u8], length: usize, rest: Rest) -> Next
     ensures { result ≡ ended_line line.now length rest }
 {
@@ -133,6 +140,7 @@ fn ended_line(line: &[u8], length: usize, rest: Rest) -> Next
 }
 
 // The last line may lack its end.
+#[tactic(auto, using(crate::proofs::Input::input_over, crate::proofs::Input::input_line))]
 fn ended_input(line: &[u8], length: usize, rest: Rest) -> Next
     ensures { result ≡ ended_input line.now length rest }
 {
@@ -143,14 +151,14 @@ fn ended_input(line: &[u8], length: usize, rest: Rest) -> Next
 }
 
 // The next line, without its end. A proved loop has to end, and nothing says that the input does: the loop counts down from a number that no run uses up.
-pub fn next_line(piece: &mut Piece, rest: Rest, line: &mut Line) -> Next
+pub fn next_line(rt: &HostRuntime, piece: &mut Piece, rest: Rest, line: &mut Line) -> Next
     ensures { LineIs piece.old rest line.old result piece.new line.new }
 {
     let mut rest = rest;
     let mut length: usize = 0;
     let mut turns = u64::MAX;
     while turns > 0 {
-        match next_byte(&mut *piece, rest) {
+        match next_byte(rt, &mut *piece, rest) {
             Byte::End => return ended_input(line, length, rest),
             Byte::Is { byte, rest: after } => {
                 rest = after;

@@ -7,7 +7,7 @@ use by_value::{reading, running};
 use machine::Machine;
 use meaning::{HEIGHTS, StackAnswer, Term};
 
-#[derive(Drop)]
+#[derive(Clone, Copy)]
 pub struct Traced {
     pub answer: u8,
     pub readings: u16,
@@ -15,6 +15,7 @@ pub struct Traced {
     pub walked: u32,
 }
 
+#[tactic(auto, using(crate::proofs::Tracing::reading_there, crate::proofs::Tracing::no_reading_lem))]
 fn has_reading(table: &[u8], state: &State, i: u16) -> bool
     ensures { result ≡ ltb i (readings_left table.now state.now) }
 {
@@ -27,6 +28,7 @@ fn has_reading(table: &[u8], state: &State, i: u16) -> bool
 }
 
 // How many readings are left: the first number that none has.
+#[tactic(auto, using(crate::proofs::Tracing::counted_all, crate::proofs::Tracing::counted_on, crate::proofs::Tracing::counted_16))]
 fn readings_left(table: &[u8], state: &State) -> u16
     ensures { result ≡ readings_left table.now state.now }
 {

@@ -8,33 +8,34 @@ use meaning::Term;
 const GREATEST: u64 = 4294967295;
 
 // A number of 32 bits that was read, and where the line goes on; or none.
-#[derive(Drop)]
+#[derive(Clone, Copy)]
 pub enum Number {
     Is { value: u32, next: usize },
     Not,
 }
 
-#[derive(Drop)]
+#[derive(Clone, Copy)]
 pub enum Parsed {
     Is(Term),
     Not,
 }
 
 // Where a line goes on behind its first word, or that this is another.
-#[derive(Drop)]
+#[derive(Clone, Copy)]
 pub enum Behind {
     At(usize),
     Not,
 }
 
 // Digits that were read: their number, if it is not too great, and where they end.
-#[derive(Drop)]
+#[derive(Clone, Copy)]
 struct Scan {
     value: u64,
     end: usize,
 }
 
 // A digit's value, up to 15; 16 for what is no digit.
+#[tactic(auto, using(crate::proofs::Text::decimal_digit, crate::proofs::Text::small_digit, crate::proofs::Text::capital_digit, crate::proofs::Text::no_digit))]
 pub fn digit(byte: u8) -> u8
     ensures { result ≡ digit_of byte }
 {
@@ -47,6 +48,7 @@ pub fn digit(byte: u8) -> u8
 }
 
 // The number with one decimal digit more; one that is too great only stays so.
+#[tactic(auto, using(crate::proofs::Text::grown_great, crate::proofs::Text::grown_on))]
 fn grown(value: u64, digit: u8) -> u64
     ensures { result ≡ grown_by value digit }
 {
@@ -57,6 +59,7 @@ fn grown(value: u64, digit: u8) -> u64
 }
 
 // The decimal digits from a place on.
+#[tactic(auto, using(crate::proofs::Text::scan_begins, crate::proofs::Text::scan_on))]
 fn scanned(line: &[u8], at: usize) -> Scan
     ensures { ScanIs line.now at result }
 {
@@ -74,6 +77,7 @@ fn scanned(line: &[u8], at: usize) -> Scan
 }
 
 // The number from a place on, of at least one digit, and past the blanks after it.
+#[tactic(auto, using(crate::proofs::Text::number_is))]
 fn number_at(line: &[u8], at: usize) -> Number
     ensures { result ≡ number_at line.now at }
 {
@@ -93,6 +97,7 @@ fn number_at(line: &[u8], at: usize) -> Number
 }
 
 // The number past the blanks from a place on, as the line's last.
+#[tactic(auto, using(crate::proofs::Text::last_is, crate::proofs::Text::last_none, crate::proofs::Text::last_not))]
 pub fn last_number(line: &[u8], at: usize) -> Number
     ensures { result ≡ last_number line.now at }
 {
@@ -108,6 +113,7 @@ pub fn last_number(line: &[u8], at: usize) -> Number
 }
 
 // The number after another; none if that is none.
+#[tactic(auto, using(crate::proofs::Text::next_none))]
 fn next_number(line: &[u8], before: Number) -> Number
     ensures { result ≡ next_number line.now before }
 {
@@ -118,6 +124,7 @@ fn next_number(line: &[u8], before: Number) -> Number
 }
 
 // A number's value; 0 for none.
+#[tactic(auto, using(crate::proofs::Text::value_none, crate::proofs::Text::value_is))]
 fn value_of(number: Number) -> u32
     ensures { result ≡ value_of number }
 {
@@ -128,6 +135,7 @@ fn value_of(number: Number) -> u32
 }
 
 // A class or a reading's number; where it is too great for 16 bits, one that is too great for every table and state.
+#[tactic(auto, using(crate::proofs::Text::short_great, crate::proofs::Text::short_same))]
 pub fn short(value: u32) -> u16
     ensures { result ≡ short_of value }
 {
@@ -138,6 +146,7 @@ pub fn short(value: u32) -> u16
 }
 
 // The four numbers of a term, past the blanks from a place on, to the line's end.
+#[tactic(auto, using(crate::proofs::Text::term_is, crate::proofs::Text::term_none, crate::proofs::Text::term_not))]
 pub fn term_at(line: &[u8], at: usize) -> Parsed
     ensures { result ≡ term_at line.now at }
 {
@@ -161,6 +170,7 @@ pub fn term_at(line: &[u8], at: usize) -> Parsed
 }
 
 // Whether the line begins with a word.
+#[tactic(auto, using(crate::proofs::Text::line_short, crate::proofs::Text::byte_differs, crate::proofs::Text::byte_same, crate::proofs::Text::word_over))]
 pub fn begins(line: &[u8], word: &[u8]) -> bool
     ensures { result ≡ begins_with line.now word.now }
 {
@@ -178,6 +188,7 @@ pub fn begins(line: &[u8], word: &[u8]) -> bool
 }
 
 // Past a word that the line begins with, and the blanks behind it; a longer word is another.
+#[tactic(auto, using(crate::proofs::Text::another_word, crate::proofs::Text::behind_blanks, crate::proofs::Text::behind_line, crate::proofs::Text::longer_word))]
 pub fn behind_word(line: &[u8], word: &[u8]) -> Behind
     ensures { result ≡ behind_word line.now word.now }
 {

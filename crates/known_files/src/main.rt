@@ -1,8 +1,6 @@
 // Compares the table files of the known runs with the bytes that the runs are proved of, and says where they differ.
 #![tactic(auto)]
 
-use libc::STDOUT_FILENO;
-
 // How many bytes stand before the first that differs or is missing in one of the two.
 fn same_at_start(file: &[u8], bytes: &[u8]) -> usize {
     let mut i: usize = 0;
@@ -18,33 +16,37 @@ fn same_at_start(file: &[u8], bytes: &[u8]) -> usize {
     i
 }
 
-fn report(name: &[u8], file: &[u8], bytes: &[u8]) {
-    io::write_all(STDOUT_FILENO, name);
+fn say(rt: &HostRuntime, words: &[u8]) {
+    let _ = rt.write_all(words);
+}
+
+fn say_number(rt: &HostRuntime, n: usize) {
+    let _ = rt.print(n);
+}
+
+fn report(rt: &HostRuntime, name: &[u8], file: &[u8], bytes: &[u8]) {
+    say(rt, name);
     if check::same(file, bytes) {
-        io::write_all(STDOUT_FILENO, b": ");
-        io::print_decimal(STDOUT_FILENO, file.len() as u64);
-        io::write_all(STDOUT_FILENO, b" bytes, the same\n");
+        say(rt, b": ");
+        say_number(rt, file.len());
+        say(rt, b" bytes, the same\n");
         return;
     }
-    io::write_all(STDOUT_FILENO, b": differs at byte ");
-    io::print_decimal(STDOUT_FILENO, same_at_start(file, bytes) as u64);
-    io::write_all(STDOUT_FILENO, b"\n");
+    say(rt, b": differs at byte ");
+    say_number(rt, same_at_start(file, bytes));
+    say(rt, b"\n");
 }
 
-fn compare(name: &[u8], bytes: &[u8]) {
-    let fd = os::open_read(name);
-    if fd < 0 {
-        os::fail(name);
-        return;
+fn compare(rt: &HostRuntime, name: &[u8], bytes: &[u8]) {
+    if let Some(mut file) = host::open(rt, name) {
+        let mut room = [0u8; 4096];
+        let n = host::read_full(&mut file, &mut room);
+        report(rt, name, &room[..n], bytes);
     }
-    let mut room = io::buffer();
-    let n = io::read_full(fd, &mut room);
-    libc::close(fd);
-    report(name, &room[..n], bytes);
 }
 
-fn main() {
-    compare(b"t1.tab", &known_tables::t1());
-    compare(b"t2.tab", &known_tables::t2());
-    compare(b"t4.tab", &known_tables::t4());
+fn main(rt: HostRuntime) {
+    compare(&rt, b"t1.tab", &known_tables::t1());
+    compare(&rt, b"t2.tab", &known_tables::t2());
+    compare(&rt, b"t4.tab", &known_tables::t4());
 }

@@ -1,2 +1,2 @@
 -- Why results that pass the test of a list may be committed.
-mod Tested
+pub mod Tested

@@ -3,7 +3,6 @@
 #![tactic(auto)]
 
 use cells::Cell;
-use libc::STDOUT_FILENO;
 use meaning::{CellNo, StateNo};
 use state::Slot;
 
@@ -14,12 +13,12 @@ type Work = [u8; state::WORK_LENGTH];
 // The table of this walk has so many states; every entry has the last one.
 const STATES: u16 = 9;
 
-fn say(text: &[u8]) {
-    io::write_all(STDOUT_FILENO, text);
+fn say(rt: &HostRuntime, text: &[u8]) {
+    let _ = rt.write_all(text);
 }
 
-fn say_number(n: u16) {
-    io::print_decimal(STDOUT_FILENO, n as u64);
+fn say_number(rt: &HostRuntime, n: u16) {
+    let _ = rt.print(n);
 }
 
 // A cell of this number, parent and height, if the work area has it.
@@ -75,6 +74,7 @@ fn list(work: &mut Work, i: u16, top: u16) {
 }
 
 // Commits results that pass the test of a list; false if they do not.
+#[tactic(auto, using(crate::proofs::Tested::tested))]
 fn commit_right(work: &mut Work, state: &mut State, count: u16, cells: u16) -> bool {
     if count > meaning::MAX_READINGS {
         return false;
@@ -89,38 +89,38 @@ fn commit_right(work: &mut Work, state: &mut State, count: u16, cells: u16) -> b
     false
 }
 
-fn say_valid(state: &State, states: u16) {
+fn say_valid(rt: &HostRuntime, state: &State, states: u16) {
     if state::valid_state(state, states) {
-        say(b"valid\n");
+        say(rt, b"valid\n");
     } else {
-        say(b"not valid\n");
+        say(rt, b"not valid\n");
     }
 }
 
-fn say_state(state: &State) {
-    say(b"readings ");
-    say_number(state::reading_count(state));
-    say(b", cells in use ");
-    say_number(state::cells_in_use(state));
-    say(b", ");
-    say_valid(state, STATES);
+fn say_state(rt: &HostRuntime, state: &State) {
+    say(rt, b"readings ");
+    say_number(rt, state::reading_count(state));
+    say(rt, b", cells in use ");
+    say_number(rt, state::cells_in_use(state));
+    say(rt, b", ");
+    say_valid(rt, state, STATES);
 }
 
-fn commit_and_say(work: &mut Work, state: &mut State, count: u16, cells: u16) {
+fn commit_and_say(rt: &HostRuntime, work: &mut Work, state: &mut State, count: u16, cells: u16) {
     if commit_right(&mut *work, &mut *state, count, cells) {
-        say_state(state);
+        say_state(rt, state);
     } else {
-        say(b"refused\n");
+        say(rt, b"refused\n");
     }
 }
 
-fn one_pile(work: &mut Work, state: &mut State, height: u16) {
-    say(b"one stack of height ");
-    say_number(height);
-    say(b": ");
+fn one_pile(rt: &HostRuntime, work: &mut Work, state: &mut State, height: u16) {
+    say(rt, b"one stack of height ");
+    say_number(rt, height);
+    say(rt, b": ");
     pile(&mut *work, 0, height);
     list(&mut *work, 0, under(0, height));
-    commit_and_say(&mut *work, &mut *state, 1, height);
+    commit_and_say(rt, &mut *work, &mut *state, 1, height);
 }
 
 // So many stacks of height 64, each of its own cells.
@@ -148,15 +148,15 @@ fn piles_shared(work: &mut Work, count: u16) {
     }
 }
 
-fn many(work: &mut Work, state: &mut State) {
+fn many(rt: &HostRuntime, work: &mut Work, state: &mut State) {
     piles_apart(&mut *work, 16);
-    say(b"16 stacks of height 64 that share nothing: ");
-    commit_and_say(&mut *work, &mut *state, 16, 1024);
-    say(b"17 results: ");
-    commit_and_say(&mut *work, &mut *state, 17, 1024);
+    say(rt, b"16 stacks of height 64 that share nothing: ");
+    commit_and_say(rt, &mut *work, &mut *state, 16, 1024);
+    say(rt, b"17 results: ");
+    commit_and_say(rt, &mut *work, &mut *state, 17, 1024);
     piles_shared(&mut *work, 16);
-    say(b"16 stacks of height 64 that share all but the top: ");
-    commit_and_say(&mut *work, &mut *state, 16, 79);
+    say(rt, b"16 stacks of height 64 that share all but the top: ");
+    commit_and_say(rt, &mut *work, &mut *state, 16, 79);
 }
 
 // The readings of a state become results again, over its own cells.
@@ -174,81 +174,98 @@ fn reload(work: &mut Work, state: &State) {
     }
 }
 
-fn say_tops(state: &State) {
+fn say_tops(rt: &HostRuntime, state: &State) {
     let first = state::get_slot(state, state::READINGS_AT, 0);
     let second = state::get_slot(state, state::READINGS_AT, 1);
     let a = first.top;
     let b = second.top;
-    say(b"their tops are the cells ");
-    say_number(a.0);
-    say(b" and ");
-    say_number(b.0);
-    say(b"\n");
+    say(rt, b"their tops are the cells ");
+    say_number(rt, a.0);
+    say(rt, b" and ");
+    say_number(rt, b.0);
+    say(rt, b"\n");
 }
 
-fn twice(work: &mut Work, state: &mut State) {
+fn twice(rt: &HostRuntime, work: &mut Work, state: &mut State) {
     pile(&mut *work, 100, 5);
     list(&mut *work, 0, 104);
     list(&mut *work, 1, 104);
-    say(b"one stack of height 5, listed twice: ");
-    commit_and_say(&mut *work, &mut *state, 2, 105);
-    say_tops(state);
+    say(rt, b"one stack of height 5, listed twice: ");
+    commit_and_say(rt, &mut *work, &mut *state, 2, 105);
+    say_tops(rt, state);
     reload(&mut *work, state);
-    say(b"loaded and committed again: ");
-    commit_and_say(&mut *work, &mut *state, 2, 5);
-    say_tops(state);
+    say(rt, b"loaded and committed again: ");
+    commit_and_say(rt, &mut *work, &mut *state, 2, 5);
+    say_tops(rt, state);
 }
 
 // The check of a state in which the number at a byte is another one; then that number is put back.
-fn damaged(state: &mut State, at: usize, v: u16, what: &[u8]) {
+fn damaged(rt: &HostRuntime, state: &mut State, at: usize, v: u16, what: &[u8]) {
     if at < state::USED_AT + 1 {
         let old = numbers::get16(state, at);
         numbers::put16(&mut *state, at, v);
-        say(what);
-        say_valid(state, STATES);
+        say(rt, what);
+        say_valid(rt, state, STATES);
         numbers::put16(&mut *state, at, old);
     }
 }
 
 // The state has one reading, over the cells 0, 1 and 2. Beyond them stand cells of earlier states, as 129 with the height 2: only its number is wrong.
-fn rules(state: &mut State) {
-    say(b"a table of 8 states: ");
-    say_valid(state, STATES - 1);
-    damaged(&mut *state, state::COUNT_AT, 17, b"17 readings: ");
-    damaged(&mut *state, state::USED_AT, 1025, b"1025 cells in use: ");
+fn rules(rt: &HostRuntime, state: &mut State) {
+    say(rt, b"a table of 8 states: ");
+    say_valid(rt, state, STATES - 1);
+    damaged(rt, &mut *state, state::COUNT_AT, 17, b"17 readings: ");
     damaged(
+        rt,
+        &mut *state,
+        state::USED_AT,
+        1025,
+        b"1025 cells in use: ",
+    );
+    damaged(
+        rt,
         &mut *state,
         state::READINGS_AT,
         3,
         b"a top that is not below the cells in use: ",
     );
-    damaged(&mut *state, 38, 0, b"a top of height 0: ");
-    damaged(&mut *state, 38, 65, b"a top of height 65: ");
-    damaged(&mut *state, 20, 1, b"heights that do not fall by one: ");
+    damaged(rt, &mut *state, 38, 0, b"a top of height 0: ");
+    damaged(rt, &mut *state, 38, 65, b"a top of height 65: ");
+    damaged(rt, &mut *state, 20, 1, b"heights that do not fall by one: ");
     damaged(
+        rt,
         &mut *state,
         36,
         129,
         b"a parent that is not below the cells in use: ",
     );
-    damaged(&mut *state, 4, STATES, b"a state that the table lacks: ");
+    damaged(
+        rt,
+        &mut *state,
+        4,
+        STATES,
+        b"a state that the table lacks: ",
+    );
 }
 
 // What the check does not look at; and no reading at all.
-fn unread(state: &mut State) {
+fn unread(rt: &HostRuntime, state: &mut State) {
     damaged(
+        rt,
         &mut *state,
         54,
         9,
         b"another byte in a cell that is not in use: ",
     );
     damaged(
+        rt,
         &mut *state,
         state::READINGS_AT + 6,
         9,
         b"another byte in a slot beyond the count: ",
     );
     damaged(
+        rt,
         &mut *state,
         state::COUNT_AT,
         0,
@@ -256,21 +273,21 @@ fn unread(state: &mut State) {
     );
 }
 
-fn walk(work: &mut Work, state: &mut State) {
+fn walk(rt: &HostRuntime, work: &mut Work, state: &mut State) {
     state::start_state(&mut *state, StateNo(1));
-    say(b"start: ");
-    say_state(state);
-    one_pile(&mut *work, &mut *state, 64);
-    one_pile(&mut *work, &mut *state, 65);
-    many(&mut *work, &mut *state);
-    twice(&mut *work, &mut *state);
-    one_pile(&mut *work, &mut *state, 3);
-    rules(&mut *state);
-    unread(&mut *state);
+    say(rt, b"start: ");
+    say_state(rt, state);
+    one_pile(rt, &mut *work, &mut *state, 64);
+    one_pile(rt, &mut *work, &mut *state, 65);
+    many(rt, &mut *work, &mut *state);
+    twice(rt, &mut *work, &mut *state);
+    one_pile(rt, &mut *work, &mut *state, 3);
+    rules(rt, &mut *state);
+    unread(rt, &mut *state);
 }
 
-fn main() {
+fn main(rt: HostRuntime) {
     let mut state = [0u8; state::STATE_LENGTH];
     let mut work = [0u8; state::WORK_LENGTH];
-    walk(&mut work, &mut state);
+    walk(&rt, &mut work, &mut state);
 }

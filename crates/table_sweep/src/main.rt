@@ -6,18 +6,18 @@ use table::Checked;
 mod print;
 mod sweep;
 
-fn print_check(name: &[u8], bytes: &[u8]) {
-    print::text(name);
+fn print_check(rt: &HostRuntime, name: &[u8], bytes: &[u8]) {
+    print::text(rt, name);
     match table::check_table(bytes) {
-        Checked::Right(_) => print::text(b": right\n"),
-        Checked::Wrong => print::text(b": wrong\n"),
+        Checked::Right(_) => print::text(rt, b": right\n"),
+        Checked::Wrong => print::text(rt, b": wrong\n"),
     }
 }
 
-fn main() {
-    print_check(b"T1", &known_tables::t1());
-    print_check(b"T2", &known_tables::t2());
-    print_check(b"T4", &known_tables::t4());
-    sweep::check_prefixes(&known_tables::t1());
-    sweep::check_changes(known_tables::t1());
+fn main(rt: HostRuntime) {
+    print_check(&rt, b"T1", &known_tables::t1());
+    print_check(&rt, b"T2", &known_tables::t2());
+    print_check(&rt, b"T4", &known_tables::t4());
+    sweep::check_prefixes(&rt, &known_tables::t1());
+    sweep::check_changes(&rt, known_tables::t1());
 }

@@ -1,11 +1,9 @@
 // Words and numbers on standard output.
-use libc::STDOUT_FILENO;
-
-pub fn text(words: &[u8]) {
-    io::write_all(STDOUT_FILENO, words);
+pub fn text(rt: &HostRuntime, words: &[u8]) {
+    let _ = rt.write_all(words);
 }
 
-pub fn number(words: &[u8], n: usize) {
-    io::write_all(STDOUT_FILENO, words);
-    io::print_decimal(STDOUT_FILENO, n as u64);
+pub fn number(rt: &HostRuntime, words: &[u8], n: usize) {
+    let _ = rt.write_all(words);
+    let _ = rt.print(n);
 }

@@ -14,32 +14,32 @@ fn is_right(bytes: &[u8]) -> bool
     }
 }
 
-fn print_share(what: &[u8], right: usize, all: usize) {
-    print::number(what, right);
-    print::number(b" of ", all);
-    print::text(b" right\n");
+fn print_share(rt: &HostRuntime, what: &[u8], right: usize, all: usize) {
+    print::number(rt, what, right);
+    print::number(rt, b" of ", all);
+    print::text(rt, b" right\n");
 }
 
 // 1 for a right table, with a line that says so, else 0.
-fn check_prefix(prefix: &[u8]) -> usize
+fn check_prefix(rt: &HostRuntime, prefix: &[u8]) -> usize
     ensures { result ≤ 1 }
 {
     if is_right(prefix) {
-        print::number(b"T1, bytes kept: ", prefix.len());
-        print::text(b", right\n");
+        print::number(rt, b"T1, bytes kept: ", prefix.len());
+        print::text(rt, b", right\n");
         return 1;
     }
     0
 }
 
-pub fn check_prefixes(table: &[u8]) {
+pub fn check_prefixes(rt: &HostRuntime, table: &[u8]) {
     let mut right: usize = 0;
     let mut n: usize = 0;
     while n < table.len() {
-        right += check_prefix(&table[..n]);
+        right += check_prefix(rt, &table[..n]);
         n += 1;
     }
-    print_share(b"T1, cut short: ", right, n);
+    print_share(rt, b"T1, cut short: ", right, n);
 }
 
 fn one_if(right: bool) -> usize
@@ -57,7 +57,7 @@ fn right_changes(table: [u8; 167], i: usize) -> usize
     let mut more: u8 = 255;
     let mut right: usize = 0;
     while 0 < more {
-        changed[i] = std::num::wrapping_add_u8(table[i], more);
+        changed[i] = table[i].wrapping_add(more);
         right += one_if(is_right(&changed));
         more -= 1;
     }
@@ -65,17 +65,17 @@ fn right_changes(table: [u8; 167], i: usize) -> usize
 }
 
 // One line for each byte that has other right values, and one for all.
-pub fn check_changes(table: [u8; 167]) {
+pub fn check_changes(rt: &HostRuntime, table: [u8; 167]) {
     let mut right: usize = 0;
     let mut i: usize = 0;
     while i < 167 {
         let here = right_changes(table, i);
         if 0 < here {
-            print::number(b"T1, byte ", i);
-            print_share(b" changed: ", here, 255);
+            print::number(rt, b"T1, byte ", i);
+            print_share(rt, b" changed: ", here, 255);
         }
         right += here;
         i += 1;
     }
-    print_share(b"T1, one byte changed: ", right, 255 * i);
+    print_share(rt, b"T1, one byte changed: ", right, 255 * i);
 }

@@ -1,0 +1,18 @@
+-- `console::lines::next_line` meets its contract. Assumes nothing.
+use Rattle.console.proofs.Filling.{filling_begins, ends_at_end, ends_at_feed, filling_on, ends_late}
+use Rattle.console.proofs.lines.next_line.Goals as goal
+
+pub loop-turns-init : goal.loop-turns-init
+loop-turns-init c = search (filling_begins)
+
+pub returns-in-End : goal.returns-in-End
+returns-in-End c = search (ends_at_end)
+
+pub returns-then-byte-eq10 : goal.returns-then-byte-eq10
+returns-then-byte-eq10 c = search (ends_at_feed)
+
+pub loop-turns-preserved : goal.loop-turns-preserved
+loop-turns-preserved c = search (filling_on)
+
+pub returns : goal.returns
+returns c = search (ends_late)
