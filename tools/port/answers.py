@@ -272,7 +272,8 @@ def turn(dirname, module, d, crate):
         if cycle:
             # the measure's fact was the first part of the requires; tactics find it by themselves now
             body = re.sub(rf"\n?[ ]*let \S+ = {re.escape(var)}\.requires\.0 in", "", body)
-            body = re.sub(rf"(?<![^\s(){{}}\[\];,]){re.escape(var)}\.requires\.1(?![0-9])", f"{var}.requires", body)
+            heads = "|".join(re.escape(a) for a in [var, *re.findall(rf"let (\S+) = {re.escape(var)} in", body)])
+            body = re.sub(rf"(?<![^\s(){{}}\[\];,])({heads})\.requires\.1(?![0-9])", r"\1.requires", body)
         left = re.search(rf"(?<![^\s(){{}}\[\];,]){re.escape(var)}\.before", body)
         if left:
             bad.append(f"{nn}: a path by before is left")

@@ -7,11 +7,11 @@ use native.Mathlib.Omega.{arith}
 use lib.Dec.{ltb, leb, eqb}
 use lib.ListN.{length}
 use borrow.Author.Tests.{lt-ltb}
-use Rattle.meaning.specs.Basics.{both, either, Maybe, nothing, just, isNil, every}
+use Rattle.meaning.specs.Basics.{both, either, nothing, just, isNil, every}
 use Rattle.std.specs.Prelude.{if◌then◌else◌}
 use Rattle.meaning.specs.Bytes.{byte_at, u16_at}
 use Rattle.meaning.specs.Limits.{max_bytes}
-use Rattle.meaning.specs.TableFile.{places, numbers, rules_from, rule_at, action_at, goto_at, shift_to, view_of, table_of, action_of, start_class}
+use Rattle.meaning.specs.TableFile.{places, numbers, rules_from, action_at, goto_at, shift_to, view_of, table_of, action_of, start_class}
 use Rattle.meaning.specs.TableRight.{counts_right, head_at, front_right, middle_right, back_right, shape_right, frame_right, picks, kind_right, rule_right, shifts, shift_right, rules_below, action_right, goto_right, Format, action_format, goto_format, key_of, fits, ascends, records_right, field_right, content_right, table_ok}
 use Rattle.meaning.specs.declared.Counts.{Counts}
 use Rattle.meaning.specs.declared.Rule.{Rule}

@@ -1,0 +1,10 @@
+-- `none_took` meets its contract. Assumes nothing.
+use Rattle.feeding.proofs.Endings.{end_unplanned, none_took_holds}
+use borrow.Author.Rules.{rules}
+use Rattle.feeding.proofs.none_took.Goals as goal
+
+pub put_in_order-errors-requires : goal.put_in_order-errors-requires
+put_in_order-errors-requires c = search (end_unplanned)
+
+pub returns : goal.returns
+returns c = search (none_took_holds)

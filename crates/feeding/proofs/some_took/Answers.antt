@@ -1,0 +1,10 @@
+-- `some_took` meets its contract. Assumes nothing.
+use Rattle.feeding.proofs.Endings.{end_unplanned, some_took_holds}
+use borrow.Author.Rules.{rules}
+use Rattle.feeding.proofs.some_took.Goals as goal
+
+pub put_reversed-errors-requires : goal.put_reversed-errors-requires
+put_reversed-errors-requires c = search (end_unplanned)
+
+pub returns : goal.returns
+returns c = search (some_took_holds)

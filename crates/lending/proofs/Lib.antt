@@ -1,2 +1,0 @@
--- Laws of lending.
-pub mod Fields
