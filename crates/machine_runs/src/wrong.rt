@@ -7,10 +7,15 @@ use meaning::{Entry, ErrorRecord, HEIGHTS, StateNo};
 
 type ShortWork = [u8; Machine::WORK_LENGTH - 1];
 
-fn ask_short(table: &[u8], state: &[u8], work: &mut ShortWork) {
-    say_question(b"  takes 3", Machine::takes(table, state, &mut *work, 3));
-    say_question(b"  can end", Machine::can_end(table, state, &mut *work));
+fn ask_short(rt: &HostRuntime, table: &[u8], state: &[u8], work: &mut ShortWork) {
     say_question(
+        rt,
+        b"  takes 3",
+        Machine::takes(table, state, &mut *work, 3),
+    );
+    say_question(rt, b"  can end", Machine::can_end(table, state, &mut *work));
+    say_question(
+        rt,
         b"  can recover",
         Machine::can_recover(table, state, &mut *work),
     );
@@ -20,7 +25,7 @@ fn wide(byte: u8) -> u64 {
     byte as u64
 }
 
-fn feed_short_work(table: &[u8], state: &mut State, work: &mut ShortWork) {
+fn feed_short_work(rt: &HostRuntime, table: &[u8], state: &mut State, work: &mut ShortWork) {
     let seven = ErrorRecord {
         rule: 7,
         state: StateNo(7),
@@ -28,26 +33,26 @@ fn feed_short_work(table: &[u8], state: &mut State, work: &mut ShortWork) {
     };
     let word = listed::term(3, 9, 0, 1);
     let fed = lending::feed_listed(table, state, &mut *work, word, [seven; Machine::ERRORS]);
-    saying::say(b"  feed");
+    saying::say(rt, b"  feed");
     let answer = fed.answer;
-    listed::say_fed(answer);
-    listed::say_record(b": ", fed.errors[0]);
-    saying::number(b"; work ", wide(work[0]));
-    saying::number_line(b" .. ", wide(work[Machine::WORK_LENGTH - 2]));
+    listed::say_fed(rt, answer);
+    listed::say_record(rt, b": ", fed.errors[0]);
+    saying::number(rt, b"; work ", wide(work[0]));
+    saying::number_line(rt, b" .. ", wide(work[Machine::WORK_LENGTH - 2]));
 }
 
 // One byte is missing from the work area: every call that has one.
-fn short_work(table: &[u8], state: &mut State) {
-    saying::line(b"a work area that is too short");
+fn short_work(rt: &HostRuntime, table: &[u8], state: &mut State) {
+    saying::line(rt, b"a work area that is too short");
     let mut work = [9u8; Machine::WORK_LENGTH - 1];
-    say_start(Machine::start(table, &mut *state, &mut work));
-    ask_short(table, state, &mut work);
-    feed_short_work(table, state, &mut work);
+    say_start(rt, Machine::start(table, &mut *state, &mut work));
+    ask_short(rt, table, state, &mut work);
+    feed_short_work(rt, table, state, &mut work);
 }
 
 // One place is missing from the list of errors.
-fn short_errors(table: &[u8], state: &mut State, work: &mut Work) {
-    saying::say(b"a list of errors that is too short\n  feed");
+fn short_errors(rt: &HostRuntime, table: &[u8], state: &mut State, work: &mut Work) {
+    saying::say(rt, b"a list of errors that is too short\n  feed");
     let seven = ErrorRecord {
         rule: 7,
         state: StateNo(7),
@@ -57,15 +62,15 @@ fn short_errors(table: &[u8], state: &mut State, work: &mut Work) {
     let word = listed::term(3, 9, 0, 1);
     let fed = short::feed_short(table, state, &mut *work, word, [seven; Machine::ERRORS - 1]);
     let answer = fed.answer;
-    listed::say_fed(answer);
-    listed::say_record(b": ", fed.errors[0]);
-    listed::say_record(b" .. ", fed.errors[Machine::ERRORS - 2]);
-    listed::say_work(work);
+    listed::say_fed(rt, answer);
+    listed::say_record(rt, b": ", fed.errors[0]);
+    listed::say_record(rt, b" .. ", fed.errors[Machine::ERRORS - 2]);
+    listed::say_work(rt, work);
 }
 
 // One place is missing from the list of entries.
-fn short_entries(table: &[u8], state: &State) {
-    saying::say(b"a list of entries that is too short\n  stack 0");
+fn short_entries(rt: &HostRuntime, table: &[u8], state: &State) {
+    saying::say(rt, b"a list of entries that is too short\n  stack 0");
     let seven = Entry {
         state: StateNo(7),
         value: 7,
@@ -74,19 +79,19 @@ fn short_entries(table: &[u8], state: &State) {
     };
     let read = short::stack_short(table, state, 0, [seven; HEIGHTS - 1]);
     let answer = read.answer;
-    listed::say_read(answer);
-    listed::say_entry(b": ", read.entries[0]);
-    listed::say_entry(b" .. ", read.entries[HEIGHTS - 2]);
-    saying::say(b"\n");
+    listed::say_read(rt, answer);
+    listed::say_entry(rt, b": ", read.entries[0]);
+    listed::say_entry(rt, b" .. ", read.entries[HEIGHTS - 2]);
+    saying::say(rt, b"\n");
 }
 
 // The state is that of a new line, and is so at the end.
-pub fn lengths(table: &[u8], state: &mut State, work: &mut Work) {
-    saying::line(b"wrong lengths");
-    listed::start(table, &mut *state, &mut *work);
-    short_work(table, &mut *state);
-    short_errors(table, &mut *state, &mut *work);
-    short_entries(table, state);
-    saying::line(b"and then");
-    ask(table, state, work);
+pub fn lengths(rt: &HostRuntime, table: &[u8], state: &mut State, work: &mut Work) {
+    saying::line(rt, b"wrong lengths");
+    listed::start(rt, table, &mut *state, &mut *work);
+    short_work(rt, table, &mut *state);
+    short_errors(rt, table, &mut *state, &mut *work);
+    short_entries(rt, table, state);
+    saying::line(rt, b"and then");
+    ask(rt, table, state, work);
 }

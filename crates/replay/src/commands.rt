@@ -4,7 +4,7 @@ use console::words::{Behind, Number, Parsed};
 use meaning::Term;
 
 // A call on a state.
-#[derive(Drop)]
+#[derive(Clone, Copy)]
 pub enum Call {
     Term(Term),
     Takes(u32),
@@ -13,7 +13,7 @@ pub enum Call {
     Stack(u32),
 }
 
-#[derive(Drop)]
+#[derive(Clone, Copy)]
 pub enum Command {
     Start,
     Call(Call),
@@ -21,7 +21,7 @@ pub enum Command {
 }
 
 // A line that gives a table: its bytes, or a file's name, from a place on.
-#[derive(Drop)]
+#[derive(Clone, Copy)]
 pub enum Source {
     Bytes(usize),
     File(usize),

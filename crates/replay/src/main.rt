@@ -13,7 +13,7 @@ mod commands;
 mod tables;
 
 // What there is after a line: how many bytes the table has, none if there is no table; whether there is a state; whether all that was said could be written.
-#[derive(Drop)]
+#[derive(Clone, Copy)]
 struct Held {
     table: usize,
     started: bool,
@@ -39,7 +39,13 @@ fn same(held: Held, written: bool) -> Held {
 }
 
 // A new table, which forgets the old one and its state; a start on it is its check, and leaves no state that a command sees.
-fn load(loaded: Loaded, table: &Table, state: &mut State, work: &mut Work) -> Held {
+fn load(
+    rt: &HostRuntime,
+    loaded: Loaded,
+    table: &Table,
+    state: &mut State,
+    work: &mut Work,
+) -> Held {
     match loaded {
         Loaded::Not { written } => nothing(written),
         Loaded::Bytes(length) => {
@@ -47,15 +53,15 @@ fn load(loaded: Loaded, table: &Table, state: &mut State, work: &mut Work) -> He
             Held {
                 table: length,
                 started: false,
-                written: saying::number_line(b"table ", checked.number() as u64),
+                written: saying::number_line(rt, b"table ", checked.number() as u64),
             }
         }
     }
 }
 
-fn start(table: &[u8], state: &mut State, work: &mut Work, held: Held) -> Held {
+fn start(rt: &HostRuntime, table: &[u8], state: &mut State, work: &mut Work, held: Held) -> Held {
     let answer = Machine::start(table, &mut *state, &mut *work);
-    let written = saying::number_line(b"start ", answer.number() as u64);
+    let written = saying::number_line(rt, b"start ", answer.number() as u64);
     match answer {
         StartAnswer::Refused(_) => Held {
             table: held.table,
@@ -65,44 +71,77 @@ fn start(table: &[u8], state: &mut State, work: &mut Work, held: Held) -> Held {
         StartAnswer::Done => Held {
             table: held.table,
             started: true,
-            written: written && answers::say_state(table, state),
+            written: written && answers::say_state(rt, table, state),
         },
     }
 }
 
-fn call(call: Call, table: &[u8], state: &mut State, work: &mut Work, held: Held) -> Held {
+fn call(
+    rt: &HostRuntime,
+    call: Call,
+    table: &[u8],
+    state: &mut State,
+    work: &mut Work,
+    held: Held,
+) -> Held {
     if held.started {
-        return same(held, answers::answer(call, table, state, work));
+        return same(held, answers::answer(rt, call, table, state, work));
     }
-    same(held, answers::say_none(call))
+    same(held, answers::say_none(rt, call))
 }
 
 // A command on the table that there is.
-fn command(line: &[u8], table: &[u8], state: &mut State, work: &mut Work, held: Held) -> Held {
+fn command(
+    rt: &HostRuntime,
+    line: &[u8],
+    table: &[u8],
+    state: &mut State,
+    work: &mut Work,
+    held: Held,
+) -> Held {
     match commands::command_of(line) {
-        Command::Not => same(held, saying::not_right(b"not a command: ", line)),
-        Command::Start => start(table, state, work, held),
-        Command::Call(asked) => call(asked, table, state, work, held),
+        Command::Not => same(held, saying::not_right(rt, b"not a command: ", line)),
+        Command::Start => start(rt, table, state, work, held),
+        Command::Call(asked) => call(rt, asked, table, state, work, held),
     }
 }
 
-fn answer(line: &[u8], table: &mut Table, state: &mut State, work: &mut Work, held: Held) -> Held {
+fn answer(
+    rt: &HostRuntime,
+    line: &[u8],
+    table: &mut Table,
+    state: &mut State,
+    work: &mut Work,
+    held: Held,
+) -> Held {
     if commands::skipped(line) {
         return held;
     }
     if commands::is_case(line) {
-        return nothing(saying::line(line));
+        return nothing(saying::line(rt, line));
     }
     match commands::source_of(line) {
-        Source::Bytes(at) => load(tables::load(line, at, &mut *table), table, state, work),
-        Source::File(at) => load(tables::read(line, at, &mut *table), table, state, work),
-        Source::Not => command(line, lines::first(table, held.table), state, work, held),
+        Source::Bytes(at) => load(
+            rt,
+            tables::load(rt, line, at, &mut *table),
+            table,
+            state,
+            work,
+        ),
+        Source::File(at) => load(
+            rt,
+            tables::read(rt, line, at, &mut *table),
+            table,
+            state,
+            work,
+        ),
+        Source::Not => command(rt, line, lines::first(table, held.table), state, work, held),
     }
 }
 
 // A line that is too long is no command; one that was to give a table leaves none.
-fn too_long(line: &[u8], held: Held) -> Held {
-    let written = saying::line(b"a line is too long");
+fn too_long(rt: &HostRuntime, line: &[u8], held: Held) -> Held {
+    let written = saying::line(rt, b"a line is too long");
     match commands::source_of(line) {
         Source::Not => same(held, written),
         Source::Bytes(_) => nothing(written),
@@ -111,16 +150,23 @@ fn too_long(line: &[u8], held: Held) -> Held {
 }
 
 // The lines, one after the other, as long as what is said can be written; the loop counts down from a number that no script uses up.
-fn run(piece: &mut Piece, line: &mut Line, table: &mut Table, state: &mut State, work: &mut Work) {
+fn run(
+    rt: &HostRuntime,
+    piece: &mut Piece,
+    line: &mut Line,
+    table: &mut Table,
+    state: &mut State,
+    work: &mut Work,
+) {
     let mut held = nothing(true);
     let mut rest = lines::nothing();
     let mut turns = u64::MAX;
     while turns > 0 && held.written {
-        match lines::next_line(&mut *piece, rest, &mut *line) {
+        match lines::next_line(rt, &mut *piece, rest, &mut *line) {
             Next::End => return,
             Next::TooLong { rest: after } => {
                 rest = after;
-                held = too_long(blanks::trimmed(line), held);
+                held = too_long(rt, blanks::trimmed(line), held);
             }
             Next::Line {
                 length,
@@ -128,6 +174,7 @@ fn run(piece: &mut Piece, line: &mut Line, table: &mut Table, state: &mut State,
             } => {
                 rest = after;
                 held = answer(
+                    rt,
                     blanks::trimmed(lines::first(line, length)),
                     &mut *table,
                     &mut *state,
@@ -140,11 +187,13 @@ fn run(piece: &mut Piece, line: &mut Line, table: &mut Table, state: &mut State,
     }
 }
 
-fn main() {
+fn main(rt: HostRuntime) {
     let mut piece = [0u8; lines::PIECE];
     let mut line = [0u8; lines::LINE];
     let mut table = [0u8; tables::TABLE];
     let mut state = [0u8; Machine::STATE_LENGTH];
     let mut work = [0u8; Machine::WORK_LENGTH];
-    run(&mut piece, &mut line, &mut table, &mut state, &mut work);
+    run(
+        &rt, &mut piece, &mut line, &mut table, &mut state, &mut work,
+    );
 }

@@ -8,13 +8,13 @@ pub type Table = [u8; TABLE];
 pub const TABLE: usize = 65547;
 
 // How many bytes the table has, or that there is none and whether this could be said.
-#[derive(Drop)]
+#[derive(Clone, Copy)]
 pub enum Loaded {
     Bytes(usize),
     Not { written: bool },
 }
 
-#[derive(Drop)]
+#[derive(Clone, Copy)]
 enum Pair {
     Is(u8),
     Not,
@@ -39,7 +39,7 @@ fn byte_of(high: u8, low: u8) -> Pair {
 }
 
 fn pair_at(line: &[u8], i: usize) -> Pair {
-    let next = std::num::wrapping_add_usize(i, 1);
+    let next = i.wrapping_add(1);
     byte_of(
         words::digit(byte_at(line, i)),
         words::digit(byte_at(line, next)),
@@ -47,7 +47,7 @@ fn pair_at(line: &[u8], i: usize) -> Pair {
 }
 
 // The bytes from a place on, two digits each.
-pub fn load(line: &[u8], at: usize, table: &mut Table) -> Loaded {
+pub fn load(rt: &HostRuntime, line: &[u8], at: usize, table: &mut Table) -> Loaded {
     let mut i = at;
     let mut n: usize = 0;
     while n < TABLE {
@@ -57,26 +57,26 @@ pub fn load(line: &[u8], at: usize, table: &mut Table) -> Loaded {
         match pair_at(line, i) {
             Pair::Not => {
                 return Loaded::Not {
-                    written: saying::not_right(b"not a command: ", line),
+                    written: saying::not_right(rt, b"not a command: ", line),
                 };
             }
             Pair::Is(byte) => {
                 table[n] = byte;
             }
         }
-        i = std::num::wrapping_add_usize(i, 2);
+        i = i.wrapping_add(2);
         n += 1;
     }
     Loaded::Bytes(n)
 }
 
 // The bytes of the file that is named from a place on. Why it cannot be read is said on standard error.
-pub fn read(line: &[u8], at: usize, table: &mut Table) -> Loaded {
+pub fn read(rt: &HostRuntime, line: &[u8], at: usize, table: &mut Table) -> Loaded {
     let name = blanks::from(line, at);
-    match files::read(name, table) {
+    match files::read(rt, name, table) {
         Contents::Bytes(length) => Loaded::Bytes(length),
         Contents::Not => Loaded::Not {
-            written: saying::not_right(b"cannot be read: ", name),
+            written: saying::not_right(rt, b"cannot be read: ", name),
         },
     }
 }
