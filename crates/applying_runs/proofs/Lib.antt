@@ -1,2 +1,2 @@
 -- The laws that the proofs of this program cite.
-mod Finding
+pub mod Finding

@@ -28,7 +28,7 @@ fn wide(x: u16) -> u32 {
 }
 
 // The states of a stack, the lowest first.
-fn say_states(work: &[u8], height: u16, top: CellNo)
+fn say_states(rt: &HostRuntime, work: &[u8], height: u16, top: CellNo)
     requires { length work.now ≡ work_len }
 {
     if height == 0 {
@@ -38,15 +38,15 @@ fn say_states(work: &[u8], height: u16, top: CellNo)
         return;
     }
     let x = cells::get_cell(work, top);
-    say_states(work, height - 1, x.parent);
+    say_states(rt, work, height - 1, x.parent);
     if 1 < height {
-        say(b",");
+        say(rt, b",");
     }
-    say_number(wide(x.state.0));
+    say_number(rt, wide(x.state.0));
 }
 
 // The entries of a stack, top first: state; value; start, end.
-fn say_entries(work: &[u8], height: u16, top: CellNo)
+fn say_entries(rt: &HostRuntime, work: &[u8], height: u16, top: CellNo)
     requires { length work.now ≡ work_len }
 {
     if height == 0 {
@@ -56,20 +56,20 @@ fn say_entries(work: &[u8], height: u16, top: CellNo)
         return;
     }
     let x = cells::get_cell(work, top);
-    say(b" (");
-    say_number(wide(x.state.0));
-    say_span(x.value, x.start, x.end);
-    say_entries(work, height - 1, x.parent);
+    say(rt, b" (");
+    say_number(rt, wide(x.state.0));
+    say_span(rt, x.value, x.start, x.end);
+    say_entries(rt, work, height - 1, x.parent);
 }
 
-fn say_span(value: u32, start: u32, end: u32) {
-    say(b"; ");
-    say_number(value);
-    say(b"; ");
-    say_number(start);
-    say(b",");
-    say_number(end);
-    say(b")");
+fn say_span(rt: &HostRuntime, value: u32, start: u32, end: u32) {
+    say(rt, b"; ");
+    say_number(rt, value);
+    say(rt, b"; ");
+    say_number(rt, start);
+    say(rt, b",");
+    say_number(rt, end);
+    say(rt, b")");
 }
 
 // The reading i of the list of results.
@@ -103,56 +103,57 @@ fn height_of(work: &[u8], c: CellNo) -> u16
     x.height
 }
 
-fn say_result(work: &[u8], i: u16)
+fn say_result(rt: &HostRuntime, work: &[u8], i: u16)
     requires { length work.now ≡ work_len }
 {
     let reading = result_at(work, i);
-    say(b"  [");
-    say_states(work, reading.height, reading.cell);
-    say(b"] mark ");
-    say_number(reading.mark);
-    say(b", entries");
-    say_entries(work, reading.height, reading.cell);
-    say(b"\n");
+    say(rt, b"  [");
+    say_states(rt, work, reading.height, reading.cell);
+    say(rt, b"] mark ");
+    say_number(rt, reading.mark);
+    say(rt, b", entries");
+    say_entries(rt, work, reading.height, reading.cell);
+    say(rt, b"\n");
 }
 
-fn say_results(work: &[u8], count: u16)
+fn say_results(rt: &HostRuntime, work: &[u8], count: u16)
     requires { length work.now ≡ work_len }
 {
     let mut i: u16 = 0;
     while i < count {
-        say_result(work, i);
+        say_result(rt, work, i);
         i += 1;
     }
 }
 
-fn say_error(work: &[u8], i: u16)
+fn say_error(rt: &HostRuntime, work: &[u8], i: u16)
     requires { length work.now ≡ work_len }
 {
     if meaning::MAX_ERRORS <= i as usize {
         return;
     }
     let p = state::ERRORS_AT + actions::errors::ERROR_SIZE * (i as usize);
-    say(b"  error: rule ");
-    say_number(wide(numbers::get16(work, p)));
-    say(b", state ");
-    say_number(wide(numbers::get16(work, p + 2)));
-    say(b", mark ");
-    say_number(numbers::get32(work, p + 4));
-    say(b"\n");
+    say(rt, b"  error: rule ");
+    say_number(rt, wide(numbers::get16(work, p)));
+    say(rt, b", state ");
+    say_number(rt, wide(numbers::get16(work, p + 2)));
+    say(rt, b", mark ");
+    say_number(rt, numbers::get32(work, p + 4));
+    say(rt, b"\n");
 }
 
-fn say_errors(work: &[u8], count: u16)
+fn say_errors(rt: &HostRuntime, work: &[u8], count: u16)
     requires { length work.now ≡ work_len }
 {
     let mut i: u16 = 0;
     while i < count {
-        say_error(work, i);
+        say_error(rt, work, i);
         i += 1;
     }
 }
 
 // Whether the reading stands in cells of lower numbers than the next one.
+#[tactic(auto, using(crate::proofs::Finding::not_found, crate::proofs::Finding::is_found))]
 fn found(work: &[u8], reading: Top, counts: Counts) -> bool
     requires { length work.now ≡ work_len }
     ensures { result ≡ true → Found work.now reading counts }
@@ -175,22 +176,24 @@ fn found(work: &[u8], reading: Top, counts: Counts) -> bool
     )
 }
 
-fn say_refused(refusal: Refusal) {
-    say(b"  refused, ");
-    say_number(refusal.number() as u32);
-    say(b"\n");
+fn say_refused(rt: &HostRuntime, refusal: Refusal) {
+    say(rt, b"  refused, ");
+    say_number(rt, refusal.number() as u32);
+    say(rt, b"\n");
 }
 
-fn say_walk(walked: usize, chains: usize) {
-    say(b"  reductions ");
-    io::print_decimal(STDOUT_FILENO, walked as u64);
-    say(b", chains ");
-    io::print_decimal(STDOUT_FILENO, chains as u64);
-    say(b"\n");
+fn say_walk(rt: &HostRuntime, walked: usize, chains: usize) {
+    say(rt, b"  reductions ");
+    let _ = rt.print(walked);
+    say(rt, b", chains ");
+    let _ = rt.print(chains);
+    say(rt, b"\n");
 }
 
 // Plans and applies a reading that was found.
+#[tactic(auto, using(crate::proofs::Finding::plan_ready))]
 fn apply_found(
+    rt: &HostRuntime,
     table: &[u8],
     view: View,
     work: &mut [u8],
@@ -208,11 +211,11 @@ fn apply_found(
     let planned = applying::plan_reading(table, view, &mut *work, ROOM, term.class, reading, 0);
     match planned {
         Planned::Refused(refusal) => {
-            say_refused(refusal);
+            say_refused(rt, refusal);
             none
         }
         Planned::Walked { walked, chains } => {
-            say_walk(walked, chains);
+            say_walk(rt, walked, chains);
             applying::apply_reading(
                 table,
                 view,
@@ -228,6 +231,7 @@ fn apply_found(
 
 // Plans and applies one reading, if there is one.
 fn apply_one(
+    rt: &HostRuntime,
     table: &[u8],
     view: View,
     work: &mut [u8],
@@ -243,18 +247,26 @@ fn apply_one(
         errors: 0,
     };
     if found(work, reading, none) {
-        return apply_found(table, view, &mut *work, cells, reading, term);
+        return apply_found(rt, table, view, &mut *work, cells, reading, term);
     }
     none
 }
 
 // The same, told: results, then errors. Gives the next cell.
-fn tell_one(table: &[u8], view: View, work: &mut [u8], cells: u16, reading: Top, term: Term) -> u16
+fn tell_one(
+    rt: &HostRuntime,
+    table: &[u8],
+    view: View,
+    work: &mut [u8],
+    cells: u16,
+    reading: Top,
+    term: Term,
+) -> u16
     requires { Belongs table.now view × (length work.old ≡ work_len) }
 {
-    let counts = apply_one(table, view, &mut *work, cells, reading, term);
-    say_results(work, counts.results);
-    say_errors(work, counts.errors);
+    let counts = apply_one(rt, table, view, &mut *work, cells, reading, term);
+    say_results(rt, work, counts.results);
+    say_errors(rt, work, counts.errors);
     counts.cells
 }
 
@@ -282,7 +294,7 @@ fn start(work: &mut [u8]) -> Top
 }
 
 // A word of class 3 from 0 to 1, then the class 4 that ends it.
-fn run_checked(table: &[u8], view: View, value: u32, work: &mut [u8])
+fn run_checked(rt: &HostRuntime, table: &[u8], view: View, value: u32, work: &mut [u8])
     requires { Belongs table.now view × (length work.old ≡ work_len) }
 {
     let reading = start(&mut *work);
@@ -292,7 +304,7 @@ fn run_checked(table: &[u8], view: View, value: u32, work: &mut [u8])
         start: 0,
         end: 1,
     };
-    let next = tell_one(table, view, &mut *work, 1, reading, word);
+    let next = tell_one(rt, table, view, &mut *work, 1, reading, word);
     let end = Term {
         class: 4,
         value: 0,
@@ -300,60 +312,76 @@ fn run_checked(table: &[u8], view: View, value: u32, work: &mut [u8])
         end: 2,
     };
     let top = result_at(work, 0);
-    tell_one(table, view, &mut *work, next, top, end);
+    tell_one(rt, table, view, &mut *work, next, top, end);
 }
 
-fn run_bytes(bytes: &[u8], value: u32) {
+fn run_bytes(rt: &HostRuntime, bytes: &[u8], value: u32) {
     let checked = table::check_table(bytes);
     match checked {
-        Checked::Wrong => say(b"  wrong table\n"),
+        Checked::Wrong => say(rt, b"  wrong table\n"),
         Checked::Right(view) => {
             let mut work = [0u8; state::WORK_LENGTH];
-            run_checked(bytes, view, value, &mut work);
+            run_checked(rt, bytes, view, value, &mut work);
         }
     }
 }
 
-fn run(title: &[u8], path: &[u8], value: u32) {
-    let file = os::open_read(path);
-    if file < 0 {
-        os::fail(path);
-        return;
+fn run(rt: &HostRuntime, title: &[u8], path: &[u8], value: u32) {
+    if let Some(mut file) = host::open(rt, path) {
+        let mut bytes = [0u8; 4096];
+        let n = host::read_full(&mut file, &mut bytes);
+        say(rt, title);
+        run_bytes(rt, &bytes[..n], value);
     }
-    let mut bytes = io::buffer();
-    let n = io::read_full(file, &mut bytes);
-    libc::close(file);
-    say(title);
-    run_bytes(&bytes[..n], value);
 }
 
-fn main() {
+fn main(rt: HostRuntime) {
     run(
+        &rt,
         b"P3: T1, `3 9 0 1` and `4 0 1 2`: a month and a day\n",
         b"T1",
         9,
     );
-    run(b"P4: T1, `3 20 0 1` and `4 0 1 2`: no month\n", b"T1", 20);
-    run(b"P5: T1, `3 40 0 1` and `4 0 1 2`: neither\n", b"T1", 40);
     run(
+        &rt,
+        b"P4: T1, `3 20 0 1` and `4 0 1 2`: no month\n",
+        b"T1",
+        20,
+    );
+    run(
+        &rt,
+        b"P5: T1, `3 40 0 1` and `4 0 1 2`: neither\n",
+        b"T1",
+        40,
+    );
+    run(
+        &rt,
         b"P10: T4, `3 9 0 1`, then `4 0 1 2`: the empty rule's chain is refused, the shift is not\n",
         b"T4",
         9,
     );
     run(
+        &rt,
         b"rule 0 twice in a record: each is its own chain\n",
         b"twice",
         9,
     );
     run(
+        &rt,
         b"rule 0 twice in a record: each is its own refusal\n",
         b"twice",
         20,
     );
     run(
+        &rt,
         b"a Join above 4294967295 refuses, with the mark before it\n",
         b"join",
         9,
     );
-    run(b"a mark that wraps: 2 and 4294967295 are 1\n", b"wrap", 9);
+    run(
+        &rt,
+        b"a mark that wraps: 2 and 4294967295 are 1\n",
+        b"wrap",
+        9,
+    );
 }

@@ -28,7 +28,7 @@ fn has_reading(table: &[u8], state: &State, i: u16) -> bool
 }
 
 // How many readings are left: the first number that none has.
-#[tactic(auto, using(crate::proofs::Tracing::counted_all, crate::proofs::Tracing::counted_on, crate::proofs::Tracing::counted_16))]
+#[tactic(auto, using(crate::proofs::Tracing::counted_all, crate::proofs::Tracing::counted_on))]
 fn readings_left(table: &[u8], state: &State) -> u16
     ensures { result ≡ readings_left table.now state.now }
 {

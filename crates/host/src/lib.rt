@@ -1,8 +1,9 @@
-// Files by name and standard error, for the programs. What a file holds stands in no contract below them, so only the count of bytes is promised.
+// Files by name, standard error and the count of the arguments, for the programs. What a file holds stands in no contract below them, so only the count of bytes is promised.
 #![tactic(auto)]
 
 ghost use Rattle.std.specs.Prelude.{◌≤◌, length};
 
+use std::env::{Env, FillError};
 use std::fs::File;
 use std::io;
 use std::io::{ErrorKind, Read};
@@ -46,4 +47,22 @@ pub fn read_full(file: &mut File, bytes: &mut [u8]) -> usize
         done += n;
     }
     done
+}
+
+fn has_argument(rt: &HostRuntime, i: usize) -> bool {
+    match rt.arg(i, &mut [0u8; 1]) {
+        Ok(_) => true,
+        Err(FillError::TooLong) => true,
+        Err(FillError::NotPresent) => false,
+    }
+}
+
+// How many arguments there are, the program's name among them.
+pub fn arg_count(rt: &HostRuntime) -> usize {
+    for i in 0..usize::MAX {
+        if !has_argument(rt, i) {
+            return i;
+        }
+    }
+    usize::MAX
 }

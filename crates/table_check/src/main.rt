@@ -5,58 +5,59 @@ ghost use Rattle.std.specs.Prelude.{◌≡◌, length};
 
 use faults::{Fault, Verdict};
 use meaning::{Counts, View};
+use std::env::Env;
 use table::Checked;
 
 mod print;
 mod words;
 
-fn print_counts(counts: Counts) {
-    print::number(b", states ", counts.states as usize);
-    print::number(b", classes ", counts.classes as usize);
-    print::number(b", nonterminals ", counts.nonterminals as usize);
-    print::number(b", rules ", counts.rules as usize);
+fn print_counts(rt: &HostRuntime, counts: Counts) {
+    print::number(rt, b", states ", counts.states as usize);
+    print::number(rt, b", classes ", counts.classes as usize);
+    print::number(rt, b", nonterminals ", counts.nonterminals as usize);
+    print::number(rt, b", rules ", counts.rules as usize);
 }
 
-fn print_view(view: View) {
-    print_counts(view.counts);
+fn print_view(rt: &HostRuntime, view: View) {
+    print_counts(rt, view.counts);
     if view.recovers {
-        print::text(b", error class used");
+        print::text(rt, b", error class used");
     }
 }
 
-fn print_right(bytes: &[u8]) {
-    print::text(b": right");
+fn print_right(rt: &HostRuntime, bytes: &[u8]) {
+    print::text(rt, b": right");
     match table::check_table(bytes) {
-        Checked::Right(view) => print_view(view),
+        Checked::Right(view) => print_view(rt, view),
         Checked::Wrong => {}
     }
 }
 
 // Field 0 is the file.
-fn print_field(fault: Fault, field: u8) {
-    print::text(b": wrong, ");
-    words::fault(fault);
+fn print_field(rt: &HostRuntime, fault: Fault, field: u8) {
+    print::text(rt, b": wrong, ");
+    words::fault(rt, fault);
     if field > 0 {
-        print::number(b": field ", field as usize);
+        print::number(rt, b": field ", field as usize);
         return;
     }
-    print::text(b": the file");
+    print::text(rt, b": the file");
 }
 
-fn print_byte(byte: usize, length: usize) {
-    print::number(b", byte ", byte);
+fn print_byte(rt: &HostRuntime, byte: usize, length: usize) {
+    print::number(rt, b", byte ", byte);
     if length <= byte {
-        print::text(b", past the end of the file");
+        print::text(rt, b", past the end of the file");
     }
 }
 
-fn print_check(name: &[u8], bytes: &[u8]) -> bool {
-    print::text(name);
+fn print_check(rt: &HostRuntime, name: &[u8], bytes: &[u8]) -> bool {
+    print::text(rt, name);
     match faults::diagnose(bytes) {
-        Verdict::Right => print_right(bytes),
+        Verdict::Right => print_right(rt, bytes),
         Verdict::Wrong { fault, field, byte } => {
-            print_field(fault, field);
-            print_byte(byte, bytes.len());
+            print_field(rt, fault, field);
+            print_byte(rt, byte, bytes.len());
         }
         Verdict::WrongRecord {
             fault,
@@ -64,12 +65,12 @@ fn print_check(name: &[u8], bytes: &[u8]) -> bool {
             record,
             byte,
         } => {
-            print_field(fault, field);
-            print::number(b", record ", record);
-            print_byte(byte, bytes.len());
+            print_field(rt, fault, field);
+            print::number(rt, b", record ", record);
+            print_byte(rt, byte, bytes.len());
         }
     }
-    print::line_end()
+    print::line_end(rt)
 }
 
 // Room for more bytes than a right table file has: a longer one is cut, and wrong all the same.
@@ -80,39 +81,41 @@ fn room() -> [u8; 70000]
 }
 
 // A file that cannot be read is said on standard error; the next one is checked all the same.
-fn check_file(name: &[u8]) -> bool {
-    let fd = os::open_read(name);
-    if fd < 0 {
-        os::fail(name);
-        return true;
+fn check_file(rt: &HostRuntime, name: &[u8]) -> bool {
+    match host::open(rt, name) {
+        Some(mut file) => {
+            let mut bytes = room();
+            let n = host::read_full(&mut file, &mut bytes);
+            print_check(rt, name, &bytes[..n])
+        }
+        None => true,
     }
-    let mut bytes = room();
-    let n = io::read_full(fd, &mut bytes);
-    libc::close(fd);
-    print_check(name, &bytes[..n])
 }
 
-fn check_argument(i: usize) -> bool {
-    let mut name = io::buffer();
-    let n = os::arg(i, &mut name);
-    check_file(&name[..n])
+fn check_argument(rt: &HostRuntime, i: usize) -> bool {
+    let mut name = [0u8; 4096];
+    let n = rt.arg(i, &mut name).unwrap_or(0);
+    check_file(rt, &name[..n])
 }
 
-fn check_arguments(count: usize) {
+fn check_arguments(rt: &HostRuntime, count: usize) {
     let mut i: usize = 1;
     while i < count {
-        if !check_argument(i) {
+        if !check_argument(rt, i) {
             return;
         }
         i += 1;
     }
 }
 
-fn main() {
-    let count = os::arg_count();
+fn main(rt: HostRuntime) {
+    let count = host::arg_count(&rt);
     if count < 2 {
-        print::text(b"table_check FILE..: says of each table file what is wrong with it\n");
+        print::text(
+            &rt,
+            b"table_check FILE..: says of each table file what is wrong with it\n",
+        );
         return;
     }
-    check_arguments(count);
+    check_arguments(&rt, count);
 }

@@ -1,20 +1,20 @@
 // Words and numbers on standard output.
-use libc::STDOUT_FILENO;
-
-pub fn text(words: &[u8]) {
-    io::write_all(STDOUT_FILENO, words);
+pub fn text(rt: &HostRuntime, words: &[u8]) {
+    let _ = rt.write_all(words);
 }
 
 // The end of a line. It says whether the line was written; if not, standard error says why.
-pub fn line_end() -> bool {
-    let written = io::write_all(STDOUT_FILENO, b"\n");
-    if !written {
-        os::fail(b"standard output");
+pub fn line_end(rt: &HostRuntime) -> bool {
+    match rt.write_all(b"\n") {
+        Ok(()) => true,
+        Err(error) => {
+            host::fail(rt, b"standard output", &error);
+            false
+        }
     }
-    written
 }
 
-pub fn number(words: &[u8], n: usize) {
-    io::write_all(STDOUT_FILENO, words);
-    io::print_decimal(STDOUT_FILENO, n as u64);
+pub fn number(rt: &HostRuntime, words: &[u8], n: usize) {
+    let _ = rt.write_all(words);
+    let _ = rt.print(n);
 }
