@@ -7,7 +7,7 @@ use mathlib.Core.List.{List, [], ◌∷◌, ◌++◌, reverse, append-nil, appen
 use Rattle.std.specs.Prelude.{if◌then◌else◌}
 use Rattle.meaning.specs.Readings.{Reading, states}
 use Rattle.meaning.specs.TableFile.{Table, table_of}
-use Rattle.meaning.specs.Walk.{Walk, Walked, refused, walked, plan, ends, chains}
+use Rattle.meaning.specs.Walk.{Walk, Walked, refused, walked, plan, ends}
 use Rattle.meaning.specs.Applying.{Applied, apply, joined, nothing_applied}
 use Rattle.meaning.specs.Feeding.{First as Meant, refuses, first}
 use Rattle.meaning.specs.declared.Refusal.{Refusal}

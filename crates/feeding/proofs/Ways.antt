@@ -9,7 +9,7 @@ use lib.ListN.{length}
 use Rattle.std.specs.Prelude.{if◌then◌else◌}
 use Rattle.meaning.specs.Readings.{Reading, states}
 use Rattle.meaning.specs.TableFile.{Table, table_of}
-use Rattle.meaning.specs.Walk.{Walk, Walked, walked, plan, ends}
+use Rattle.meaning.specs.Walk.{Walk, Walked, plan, ends}
 use Rattle.meaning.specs.Applying.{Applied, apply, joined}
 use Rattle.meaning.specs.declared.Refusal.{Refusal}
 use Rattle.meaning.specs.declared.Term.{Term}

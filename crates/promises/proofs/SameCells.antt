@@ -11,12 +11,11 @@ use borrow.Author.Tests.{eqb-true, eq-eqb, ne_eqb}
 use Rattle.meaning.specs.Basics.{either}
 use Rattle.std.specs.Prelude.{if◌then◌else◌}
 use Rattle.meaning.specs.Identities.{ren_entry, ren_reading}
-use Rattle.meaning.specs.Readings.{Entry, Reading, no_entry, top, holds, held_by}
+use Rattle.meaning.specs.Readings.{Entry, Reading, top, holds, held_by}
 use Rattle.meaning.proofs.Booleans.{no_false}
 use Rattle.numbers.specs.Writing.{Agree}
 use Rattle.cells.specs.Pool.{cell_size, cell_at}
 use Rattle.cells.specs.Stacks.{Pool, entry_at, entries_of, Linked}
-use Rattle.cells.specs.declared.Cell.{Cell}
 use Rattle.cells.proofs.Records.{Other, same?}
 use Rattle.cells.proofs.Stacks.{length_entries}
 use Rattle.state.specs.Check.{valid_state}

@@ -1,6 +1,6 @@
 -- When two state buffers are the same but for cells: the same readings but for identities under one table make them so under every table. Assumes nothing.
 use Prim.Native.Nat.{ℕ}
-use mathlib.Core.Path.{◌≡◌, refl, sym, ap, ◌∙◌, subst}
+use mathlib.Core.Path.{◌≡◌, refl, sym, ◌∙◌, subst}
 use mathlib.Core.Bool.{Bool, true, false}
 use mathlib.Core.List.{List, [], ◌∷◌, map}
 use lib.ListN.{length}
@@ -10,12 +10,9 @@ use Rattle.meaning.specs.Identities.{ren_entry, ren_reading}
 use Rattle.meaning.specs.Readings.{Entry, Reading}
 use Rattle.meaning.specs.TableFile.{table_of}
 use Rattle.meaning.proofs.Booleans.{no_false}
-use Rattle.meaning.proofs.Tools.{length-map}
 use Rattle.cells.specs.Stacks.{StatesBelow}
 use Rattle.state.specs.Check.{valid_state, state_of, StatesKnown}
-use Rattle.state.specs.Layout.{readings_at}
-use Rattle.state.specs.Readings.{count_of, used_of, readings_of}
-use Rattle.state.proofs.Lists.{length_readings}
+use Rattle.state.specs.Readings.{used_of, readings_of}
 use Rattle.state.proofs.Valid.{count_few, used_few, all_stand, known, valid_from}
 use Rattle.promises.specs.Calls.{Renamed, SameState}
 use Rattle.promises.specs.Claims.{Fits}

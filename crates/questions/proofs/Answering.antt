@@ -9,7 +9,6 @@ use Rattle.std.specs.Prelude.{if◌then◌else◌}
 use Rattle.meaning.specs.TableFile.{Table, table_of}
 use Rattle.meaning.specs.Readings.{states}
 use Rattle.meaning.specs.Questions.{can_plan, or_else, takes, can_end, recovers_from, some_recovers, can_recover}
-use Rattle.meaning.specs.Questions as asking
 use Rattle.meaning.specs.declared.View.{View}
 use Rattle.meaning.specs.declared.Refusal.{Refusal}
 use Rattle.meaning.specs.declared.QuestionAnswer.{QuestionAnswer}
@@ -24,7 +23,6 @@ use Rattle.state.specs.Layout.{readings_at}
 use Rattle.state.specs.declared.Slot.{Slot}
 use Rattle.table.specs.Answers.{Belongs}
 use Rattle.chains.specs.Filling.{StackAsks}
-use Rattle.chains.specs.declared.Planned.TheVariants as planned
 use Rattle.questions.specs.Asking.{AsksList, AsksState}
 
 -- The first yes or the first refusal decides.

@@ -7,7 +7,7 @@ use lib.ListN.{length}
 use borrow.Author.Tests.{le-ltb, lt-ltb}
 use Rattle.meaning.specs.Readings.{Reading, states}
 use Rattle.meaning.specs.TableFile.{table_of}
-use Rattle.meaning.specs.Walk.{walked, plan, chains}
+use Rattle.meaning.specs.Walk.{walked, plan}
 use Rattle.meaning.specs.Applying.{Applied, apply, nothing_applied}
 use Rattle.meaning.specs.declared.Refusal.{Refusal}
 use Rattle.meaning.specs.declared.Term.{Term}

@@ -1,6 +1,5 @@
 -- `base_state` meets its contract. Assumes nothing.
 use Rattle.actions.proofs.PoppingLaws.{base_there}
-use Rattle.std.proofs.Common.{rules}
 use Rattle.actions.proofs.base_state.Goals as goal
 
 pub returns : goal.returns

@@ -1,6 +1,5 @@
 -- `born_cell` meets its contract. Assumes nothing.
 use Rattle.actions.proofs.StepLaws.{born_cell_lem}
-use Rattle.std.proofs.Common.{rules}
 use Rattle.actions.proofs.born_cell.Goals as goal
 
 pub returns : goal.returns

@@ -1,6 +1,5 @@
 -- `lands_in` meets its contract. Assumes nothing.
 use Rattle.actions.proofs.StepLaws.{goto_to, goto_none}
-use Rattle.std.proofs.Common.{rules}
 use Rattle.actions.proofs.lands_in.Goals as goal
 
 pub returns-in-To : goal.returns-in-To

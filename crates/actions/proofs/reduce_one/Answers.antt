@@ -1,5 +1,5 @@
 -- `reduce_one` meets its contract. Assumes nothing.
-use Rattle.std.proofs.Common.{arith, rules}
+use Rattle.std.proofs.Common.{arith}
 use Rattle.actions.proofs.StepLaws.{step_pops, birth_ready, refusal_ready, reduces_is, refuses_is}
 use Rattle.actions.proofs.reduce_one.Goals as goal
 

@@ -1,6 +1,5 @@
 -- `reduce_to` meets its contract. Assumes nothing.
 use Rattle.actions.proofs.StepLaws.{born_is}
-use Rattle.std.proofs.Common.{rules}
 use Rattle.actions.proofs.reduce_to.Goals as goal
 
 pub returns : goal.returns

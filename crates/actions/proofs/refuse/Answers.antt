@@ -1,6 +1,5 @@
 -- `refuse` meets its contract. Assumes nothing.
 use Rattle.actions.proofs.StepLaws.{refusal_is}
-use Rattle.std.proofs.Common.{rules}
 use Rattle.actions.proofs.refuse.Goals as goal
 
 pub returns : goal.returns

@@ -1,6 +1,5 @@
 -- `shift_one` meets its contract. Assumes nothing.
 use Rattle.actions.proofs.StepLaws.{shift_is}
-use Rattle.std.proofs.Common.{rules}
 use Rattle.actions.proofs.shift_one.Goals as goal
 
 pub returns : goal.returns

@@ -1,6 +1,5 @@
 -- `shifted_cell` meets its contract. Assumes nothing.
 use Rattle.actions.specs.Acting.{shifted_cell}
-use Rattle.std.proofs.Common.{rules}
 use Rattle.actions.proofs.shifted_cell.Goals as goal
 
 pub returns : goal.returns

@@ -1,6 +1,5 @@
 -- `apply_reading` meets its contract. Assumes nothing.
 use Rattle.applying.proofs.Readings.{reading_ready, reading_done}
-use borrow.Author.Rules.{rules}
 use Rattle.applying.proofs.apply_reading.Goals as goal
 
 pub apply_state-requires : goal.apply_state-requires

@@ -1,6 +1,5 @@
 -- `chains_below` meets its contract. Assumes nothing.
 use Rattle.applying.specs.Following.{marks_of}
-use borrow.Author.Rules.{rules}
 use Rattle.applying.proofs.chains_below.Goals as goal
 
 pub returns : goal.returns

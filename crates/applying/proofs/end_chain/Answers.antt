@@ -1,6 +1,5 @@
 -- `end_chain` meets its contract. Assumes nothing.
 use Rattle.applying.proofs.Endings.{shift_ready, told_shift, told_no_shift}
-use borrow.Author.Rules.{rules}
 use Rattle.applying.proofs.end_chain.Goals as goal
 
 pub shift_one-requires : goal.shift_one-requires

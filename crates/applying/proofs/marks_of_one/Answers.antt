@@ -1,6 +1,5 @@
 -- `marks_of_one` meets its contract. Assumes nothing.
 use Rattle.applying.specs.Following.{marks_of}
-use borrow.Author.Rules.{rules}
 use Rattle.applying.proofs.marks_of_one.Goals as goal
 
 pub returns : goal.returns

@@ -1,6 +1,5 @@
 -- `plan_reading`: the planner's window is the work area's marks.
 use Rattle.applying.proofs.Planting.{asks, reading_planned}
-use borrow.Author.Rules.{rules}
 use Rattle.applying.proofs.plan_reading.Goals as goal
 
 pub plan_within-requires : goal.plan_within-requires

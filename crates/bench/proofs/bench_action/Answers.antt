@@ -1,7 +1,6 @@
 -- `bench::bench_action` meets its contract. Assumes nothing.
 use Rattle.table.proofs.Checking.{belongs_of}
 use Rattle.bench.proofs.Measuring.{action_right_lem, action_wrong}
-use borrow.Author.Rules.{rules}
 use Rattle.bench.proofs.bench_action.Goals as goal
 
 pub target_of_action-requires : goal.target_of_action-requires

@@ -1,6 +1,5 @@
 -- `bench::bench_check` meets its contract. Assumes nothing.
 use Rattle.bench.proofs.Measuring.{check_right, check_wrong}
-use borrow.Author.Rules.{rules}
 use Rattle.bench.proofs.bench_check.Goals as goal
 
 pub returns-in-Right : goal.returns-in-Right

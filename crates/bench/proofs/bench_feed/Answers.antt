@@ -1,6 +1,5 @@
 -- `bench::bench_feed` meets its contract. Assumes nothing.
 use Rattle.bench.proofs.Measuring.{feed_measured}
-use borrow.Author.Rules.{rules}
 use Rattle.bench.proofs.bench_feed.Goals as goal
 
 pub returns : goal.returns

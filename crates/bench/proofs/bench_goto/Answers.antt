@@ -1,7 +1,6 @@
 -- `bench::bench_goto` meets its contract. Assumes nothing.
 use Rattle.table.proofs.Checking.{belongs_of}
 use Rattle.bench.proofs.Measuring.{goto_right_lem, goto_wrong}
-use borrow.Author.Rules.{rules}
 use Rattle.bench.proofs.bench_goto.Goals as goal
 
 pub target_of_goto-requires : goal.target_of_goto-requires

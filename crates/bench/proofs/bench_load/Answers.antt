@@ -1,6 +1,5 @@
 -- `bench::bench_load` meets its contract. Assumes nothing.
 use Rattle.bench.proofs.Measuring.{load_other_state, load_other_work, load_too_many, load_done}
-use borrow.Author.Rules.{rules}
 use Rattle.bench.proofs.bench_load.Goals as goal
 
 pub returns-then-cells_in_use-le-STATE_CELLS : goal.returns-then-cells_in_use-le-STATE_CELLS

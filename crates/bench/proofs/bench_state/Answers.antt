@@ -1,6 +1,5 @@
 -- `bench::bench_state` meets its contract. Assumes nothing.
 use Rattle.bench.proofs.Measuring.{state_right_lem, state_wrong, state_other}
-use borrow.Author.Rules.{rules}
 use Rattle.bench.proofs.bench_state.Goals as goal
 
 pub returns-then-valid_state : goal.returns-then-valid_state

@@ -1,6 +1,5 @@
 -- `bench::target_of_action` meets its contract. Assumes nothing.
 use Rattle.bench.proofs.Measuring.{target_is}
-use borrow.Author.Rules.{rules}
 use Rattle.bench.proofs.target_of_action.Goals as goal
 
 pub returns : goal.returns

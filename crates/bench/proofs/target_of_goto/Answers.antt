@@ -1,6 +1,5 @@
 -- `bench::target_of_goto` meets its contract. Assumes nothing.
 use Rattle.bench.proofs.Measuring.{goto_there, goto_none}
-use borrow.Author.Rules.{rules}
 use Rattle.bench.proofs.target_of_goto.Goals as goal
 
 pub returns-in-To : goal.returns-in-To

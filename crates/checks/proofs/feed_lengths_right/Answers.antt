@@ -1,6 +1,5 @@
 -- `feed_lengths_right` meets its contract. Assumes nothing.
 use Rattle.checks.proofs.Checks.{feed_lengths_yes, feed_lengths_no}
-use borrow.Author.Rules.{rules}
 use Rattle.checks.proofs.feed_lengths_right.Goals as goal
 
 pub returns-then-lengths_right : goal.returns-then-lengths_right

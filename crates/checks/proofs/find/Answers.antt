@@ -1,6 +1,5 @@
 -- `checking::find` meets its contract. Assumes nothing.
 use Rattle.checks.proofs.Checks.{found_wrong_table, found_wrong_state, found_right}
-use borrow.Author.Rules.{rules}
 use Rattle.checks.proofs.find.Goals as goal
 
 pub returns-in-Wrong : goal.returns-in-Wrong

@@ -1,6 +1,5 @@
 -- `checking::lengths_right` meets its contract. Assumes nothing.
 use Rattle.checks.proofs.Checks.{lengths_no, lengths_yes}
-use borrow.Author.Rules.{rules}
 use Rattle.checks.proofs.lengths_right.Goals as goal
 
 pub returns-then-state_length_right : goal.returns-then-state_length_right

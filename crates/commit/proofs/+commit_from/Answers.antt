@@ -1,8 +1,6 @@
 -- `commit::commit_from` meets its contract. Assumes nothing.
 use native.Mathlib.Omega.{arith}
-use borrow.Author.Rules.{rules}
 use Rattle.commit.proofs.Results.{from_none, from_more, ready_one, ready_more}
-use Prim.Native.Nat.{ℕ, ◌<◌}
 use Rattle.commit.proofs.+commit_from.Goals as goal
 
 pub returns-then-left-eq0 : goal.returns-then-left-eq0

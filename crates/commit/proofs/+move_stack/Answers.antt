@@ -1,8 +1,6 @@
 -- `commit::move_stack` meets its contract. Assumes nothing.
 use native.Mathlib.Omega.{arith}
-use borrow.Author.Rules.{rules}
 use Rattle.commit.proofs.Steps.{move_none, move_more, ready_read, ready_under, ready_cell}
-use Prim.Native.Nat.{ℕ, ◌<◌}
 use Rattle.commit.proofs.+move_stack.Goals as goal
 
 pub returns-then-height-eq0 : goal.returns-then-height-eq0

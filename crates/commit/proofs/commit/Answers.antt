@@ -1,6 +1,5 @@
 -- `commit::commit` meets its contract. Assumes nothing.
 use Rattle.commit.proofs.Promise.{ready_first, commits}
-use borrow.Author.Rules.{rules}
 use Rattle.commit.proofs.commit.Goals as goal
 
 pub commit_from-used-requires : goal.commit_from-used-requires

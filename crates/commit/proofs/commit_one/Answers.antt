@@ -1,6 +1,5 @@
 -- `commit::commit_one` meets its contract. Assumes nothing.
 use Rattle.commit.proofs.Results.{one_done, one_read, one_move}
-use borrow.Author.Rules.{rules}
 use Rattle.commit.proofs.commit_one.Goals as goal
 
 pub get_cell-x-requires : goal.get_cell-x-requires

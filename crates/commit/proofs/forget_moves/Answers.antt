@@ -1,6 +1,5 @@
 -- `commit::forget_moves` meets its contract. Assumes nothing.
 use Rattle.commit.proofs.Map.{forgets}
-use borrow.Author.Rules.{rules}
 use Rattle.commit.proofs.forget_moves.Goals as goal
 
 pub returns : goal.returns

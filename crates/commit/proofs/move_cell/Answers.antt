@@ -1,6 +1,5 @@
 -- `commit::move_cell` meets its contract. Assumes nothing.
 use Rattle.commit.proofs.Steps.{step_old, step_new}
-use borrow.Author.Rules.{rules}
 use Rattle.commit.proofs.move_cell.Goals as goal
 
 pub returns-then-to-ne0 : goal.returns-then-to-ne0

@@ -1,6 +1,5 @@
 -- `commit::moved_to` meets its contract. Assumes nothing.
 use Rattle.commit.specs.Moving.{moved_to}
-use borrow.Author.Rules.{rules}
 use Rattle.commit.proofs.moved_to.Goals as goal
 
 pub returns : goal.returns

@@ -1,6 +1,5 @@
 -- `commit::put_moved` meets its contract. Assumes nothing.
 use Rattle.commit.specs.Moving.{put_moved}
-use borrow.Author.Rules.{rules}
 use Rattle.commit.proofs.put_moved.Goals as goal
 
 pub returns : goal.returns

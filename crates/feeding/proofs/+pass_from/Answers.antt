@@ -1,10 +1,8 @@
 -- `pass_from` meets its contract. Assumes nothing.
 use native.Mathlib.Omega.{arith}
-use borrow.Author.Rules.{rules}
 use Rattle.feeding.proofs.Steps.{top_ready, take_ready}
 use Rattle.feeding.proofs.Ways.{pass_end}
 use Rattle.feeding.proofs.Turns.{turn_refused, turn_took, turned_took, turn_room, turn_left, turned_left}
-use Prim.Native.Nat.{ℕ, ◌<◌}
 use Rattle.feeding.proofs.+pass_from.Goals as goal
 
 pub returns-then-i-eq0 : goal.returns-then-i-eq0

@@ -1,6 +1,5 @@
 -- `first_planning` meets its contract. Assumes nothing.
 use Rattle.feeding.proofs.Firsts.{settle_ready, first_settled, first_refused}
-use borrow.Author.Rules.{rules}
 use Rattle.feeding.proofs.first_planning.Goals as goal
 
 pub settle-requires : goal.settle-requires

@@ -1,6 +1,5 @@
 -- `none_took` meets its contract. Assumes nothing.
 use Rattle.feeding.proofs.Endings.{end_unplanned, none_took_holds}
-use borrow.Author.Rules.{rules}
 use Rattle.feeding.proofs.none_took.Goals as goal
 
 pub put_in_order-errors-requires : goal.put_in_order-errors-requires

@@ -1,6 +1,5 @@
 -- `pass_over` meets its contract. Assumes nothing.
 use Rattle.feeding.proofs.Firsts.{pass_begins, pass_is}
-use borrow.Author.Rules.{rules}
 use Rattle.feeding.proofs.pass_over.Goals as goal
 
 pub pass_from-requires : goal.pass_from-requires

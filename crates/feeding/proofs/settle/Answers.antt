@@ -1,6 +1,5 @@
 -- `settle` meets its contract. Assumes nothing.
 use Rattle.feeding.proofs.Endings.{settle_some, settle_planned, settle_waits, settle_unused}
-use borrow.Author.Rules.{rules}
 use Rattle.feeding.proofs.settle.Goals as goal
 
 pub returns-then-so-ne0 : goal.returns-then-so-ne0

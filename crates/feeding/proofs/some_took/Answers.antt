@@ -1,6 +1,5 @@
 -- `some_took` meets its contract. Assumes nothing.
 use Rattle.feeding.proofs.Endings.{end_unplanned, some_took_holds}
-use borrow.Author.Rules.{rules}
 use Rattle.feeding.proofs.some_took.Goals as goal
 
 pub put_reversed-errors-requires : goal.put_reversed-errors-requires

@@ -1,7 +1,6 @@
 -- `errors_of` meets its contract. The loop keeps that the first i records stand in the first i places; the measure is how many are left. Assumes nothing.
 use Prim.Native.Nat.{◌-◌}
-use Rattle.gathering.proofs.Laws.{GatheredTo, gather_first, gather_room, gather_more, gathered}
-use borrow.Author.Rules.{rules}
+use Rattle.gathering.proofs.Laws.{GatheredTo}
 use Rattle.gathering.proofs.errors_of.Given as goal
 
 abbrev pub invariant-loop-i : goal.invariant-loop-i

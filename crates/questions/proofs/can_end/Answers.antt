@@ -1,7 +1,6 @@
 -- `can_end`: takes the end class.
 use mathlib.Core.Path.{◌∙◌}
 use Rattle.questions.proofs.Answering.{takes_end}
-use borrow.Author.Rules.{rules}
 use Rattle.questions.proofs.can_end.Goals as goal
 
 pub returns : goal.returns

@@ -1,7 +1,6 @@
 -- `can_recover`: no if the error class is unused, else the readings decide.
 use mathlib.Core.Path.{◌∙◌}
 use Rattle.questions.proofs.Answering.{asks_all, recover_used, recover_unused}
-use borrow.Author.Rules.{rules}
 use Rattle.questions.proofs.can_recover.Goals as goal
 
 pub some_recovers-requires : goal.some_recovers-requires

@@ -1,7 +1,6 @@
 -- `takes`: all readings of the state.
 use mathlib.Core.Path.{◌∙◌}
 use Rattle.questions.proofs.Answering.{asks_all, takes_all}
-use borrow.Author.Rules.{rules}
 use Rattle.questions.proofs.takes.Goals as goal
 
 pub takes_from-requires : goal.takes_from-requires

@@ -1,6 +1,5 @@
 -- `recovery::after_looking` meets its contract. Assumes nothing.
 use Rattle.recovery.proofs.RecoversEnds.{looked_none, looked_some}
-use borrow.Author.Rules.{rules}
 use Rattle.recovery.proofs.after_looking.Goals as goal
 
 pub returns-then-so-eq0 : goal.returns-then-so-eq0

@@ -1,7 +1,6 @@
 -- `recovery::none_recovered` meets its contract. Assumes nothing.
 use Rattle.feeding.proofs.Endings.{end_unplanned}
 use Rattle.recovery.proofs.RecoversEnds.{none_recovered_way}
-use borrow.Author.Rules.{rules}
 use Rattle.recovery.proofs.none_recovered.Goals as goal
 
 pub put_in_order-errors-requires : goal.put_in_order-errors-requires

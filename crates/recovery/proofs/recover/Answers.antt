@@ -1,6 +1,5 @@
 -- `recovery::recover` meets its contract. Assumes nothing.
 use Rattle.recovery.proofs.Recovers.{first_begins, looked_ready, first_stopped, recovered}
-use borrow.Author.Rules.{rules}
 use Rattle.recovery.proofs.recover.Goals as goal
 
 pub recover_all-stage-requires : goal.recover_all-stage-requires

@@ -1,6 +1,5 @@
 -- `recovery::term_taken` meets its contract. Assumes nothing.
 use Rattle.recovery.proofs.RecoversEnds.{second_begins, second_stopped, second_came}
-use borrow.Author.Rules.{rules}
 use Rattle.recovery.proofs.term_taken.Goals as goal
 
 pub take_from-stage-requires : goal.take_from-stage-requires

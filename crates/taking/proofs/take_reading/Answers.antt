@@ -1,6 +1,5 @@
 -- `take_reading` meets its contract. Assumes nothing.
 use Rattle.taking.proofs.Ways.{ready_to_plan, ready_to_apply, total_fits, left_way, took_way, refused_way}
-use borrow.Author.Rules.{rules}
 use Rattle.taking.proofs.take_reading.Goals as goal
 
 pub plan_reading-planned-requires : goal.plan_reading-planned-requires

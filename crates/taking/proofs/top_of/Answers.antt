@@ -1,6 +1,5 @@
 -- `top_of` meets its contract. Assumes nothing.
 use Rattle.taking.proofs.Ways.{top_cell_lem}
-use borrow.Author.Rules.{rules}
 use Rattle.taking.proofs.top_of.Goals as goal
 
 pub get_cell-x-requires : goal.get_cell-x-requires

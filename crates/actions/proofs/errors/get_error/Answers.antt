@@ -1,6 +1,5 @@
 -- `errors::get_error` meets its contract. Assumes nothing.
 use Rattle.actions.specs.Errors.{error_at}
-use Rattle.std.proofs.Common.{rules}
 use Rattle.actions.proofs.errors.get_error.Goals as goal
 
 pub returns : goal.returns

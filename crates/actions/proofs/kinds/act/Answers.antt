@@ -1,5 +1,5 @@
 -- `kinds::act` meets its contract. Assumes nothing.
-use Rattle.std.proofs.Common.{◌∙◌, rules}
+use Rattle.std.proofs.Common.{◌∙◌}
 use Rattle.actions.proofs.KindLaws.{kind_0, kind_1, kind_2, kind_3}
 use Rattle.actions.proofs.kinds.act.Goals as goal
 

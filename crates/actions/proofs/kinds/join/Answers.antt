@@ -1,5 +1,5 @@
 -- `kinds::join` meets its contract. Assumes nothing.
-use Rattle.std.proofs.Common.{arith, rules}
+use Rattle.std.proofs.Common.{arith}
 use Rattle.actions.proofs.KindLaws.{product_small, join_in, join_over}
 use Rattle.actions.proofs.kinds.join.Goals as goal
 

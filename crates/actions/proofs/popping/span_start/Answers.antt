@@ -1,6 +1,5 @@
 -- `popping::span_start` meets its contract. Assumes nothing.
 use Rattle.actions.proofs.PoppingLaws.{start_none, start_more}
-use Rattle.std.proofs.Common.{rules}
 use Rattle.actions.proofs.popping.span_start.Goals as goal
 
 pub returns-then-n-eq0 : goal.returns-then-n-eq0

@@ -1,7 +1,5 @@
 -- `reading::entries_of` meets its contract. The loop keeps that the first i places hold what is seen of the first i cells; the measure is how many are left. Assumes nothing.
-use Prim.Native.Nat.{◌-◌}
-use Rattle.by_value.proofs.Stacks.{ReadTo, numbers_ready, read_first, read_room, read_more, read_all}
-use borrow.Author.Rules.{rules}
+use Rattle.by_value.proofs.Stacks.{numbers_ready, read_first, read_room, read_more, read_all}
 use Rattle.by_value.proofs.reading.entries_of.Goals as goal
 
 pub numbers_from-numbers-requires : goal.numbers_from-numbers-requires

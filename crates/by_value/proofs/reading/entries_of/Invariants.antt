@@ -1,7 +1,6 @@
 -- `reading::entries_of` meets its contract. The loop keeps that the first i places hold what is seen of the first i cells; the measure is how many are left. Assumes nothing.
 use Prim.Native.Nat.{◌-◌}
-use Rattle.by_value.proofs.Stacks.{ReadTo, numbers_ready, read_first, read_room, read_more, read_all}
-use borrow.Author.Rules.{rules}
+use Rattle.by_value.proofs.Stacks.{ReadTo}
 use Rattle.by_value.proofs.reading.entries_of.Given as goal
 
 abbrev pub invariant-loop-i : goal.invariant-loop-i

@@ -1,6 +1,5 @@
 -- `reading::lists_right` meets its contract. Assumes nothing.
 use Rattle.by_value.proofs.Stacks.{lists_no, lists_yes}
-use borrow.Author.Rules.{rules}
 use Rattle.by_value.proofs.reading.lists_right.Goals as goal
 
 pub returns-then-state_length_right : goal.returns-then-state_length_right

@@ -1,6 +1,5 @@
 -- `reading::stack_found` meets its contract. Assumes nothing.
 use Rattle.by_value.proofs.Stacks.{right_state, stack_refused_lem, stack_found}
-use borrow.Author.Rules.{rules}
 use Rattle.by_value.proofs.reading.stack_found.Goals as goal
 
 pub stack_right-requires : goal.stack_right-requires

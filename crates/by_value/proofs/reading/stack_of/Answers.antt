@@ -1,6 +1,5 @@
 -- `reading::stack_of` meets its contract. Assumes nothing.
 use Rattle.by_value.proofs.Stacks.{list_state_long, stack_length, stack_long}
-use borrow.Author.Rules.{rules}
 use Rattle.by_value.proofs.reading.stack_of.Goals as goal
 
 pub stack_found-requires : goal.stack_found-requires

@@ -1,6 +1,5 @@
 -- `reading::stack_right` meets its contract. Assumes nothing.
 use Rattle.by_value.proofs.Stacks.{stack_consumed, stack_none, number_slot, number_room, number_ready, stack_done}
-use borrow.Author.Rules.{rules}
 use Rattle.by_value.proofs.reading.stack_right.Goals as goal
 
 pub returns-then-count-eq0 : goal.returns-then-count-eq0

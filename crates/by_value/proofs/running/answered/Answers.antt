@@ -1,6 +1,5 @@
 -- `running::answered` meets its contract. Assumes nothing.
 use Rattle.by_value.proofs.RunParts.{run_taken, run_not}
-use borrow.Author.Rules.{rules}
 use Rattle.by_value.proofs.running.answered.Goals as goal
 
 pub returns-then-taken : goal.returns-then-taken

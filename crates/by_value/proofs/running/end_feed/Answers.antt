@@ -1,6 +1,5 @@
 -- `running::end_feed` meets its contract. Assumes nothing.
 use Rattle.by_value.proofs.RunParts.{commit_ready, ended_run}
-use borrow.Author.Rules.{rules}
 use Rattle.by_value.proofs.running.end_feed.Goals as goal
 
 pub commit-requires : goal.commit-requires

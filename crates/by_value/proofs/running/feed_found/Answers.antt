@@ -1,6 +1,5 @@
 -- `running::feed_found` meets its contract. Assumes nothing.
 use Rattle.by_value.proofs.Runs.{right_ready, found_refused, found_right}
-use borrow.Author.Rules.{rules}
 use Rattle.by_value.proofs.running.feed_found.Goals as goal
 
 pub feed_right-requires : goal.feed_right-requires

@@ -1,6 +1,5 @@
 -- `running::feed_of` meets its contract. Assumes nothing.
 use Rattle.by_value.proofs.Runs.{feed_line_lem, run_done, run_length}
-use borrow.Author.Rules.{rules}
 use Rattle.by_value.proofs.running.feed_of.Goals as goal
 
 pub feed_found-run-requires : goal.feed_found-run-requires

@@ -1,6 +1,5 @@
 -- `running::feed_right` meets its contract. Assumes nothing.
 use Rattle.by_value.proofs.Runs.{right_consumed, right_wrong, ends_ready, right_refused, right_ended}
-use borrow.Author.Rules.{rules}
 use Rattle.by_value.proofs.running.feed_right.Goals as goal
 
 pub returns-then-reading_count-eq0 : goal.returns-then-reading_count-eq0

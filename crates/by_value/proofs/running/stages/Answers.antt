@@ -1,6 +1,5 @@
 -- `running::stages` meets its contract. Assumes nothing.
 use Rattle.by_value.proofs.RunParts.{load_ready, first_ready, recover_ready, stages_refused, stages_ended, stages_recovered}
-use borrow.Author.Rules.{rules}
 use Rattle.by_value.proofs.running.stages.Goals as goal
 
 pub load-requires : goal.load-requires

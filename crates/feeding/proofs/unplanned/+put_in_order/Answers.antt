@@ -1,9 +1,6 @@
 -- `put_in_order` meets its contract. Assumes nothing.
 use native.Mathlib.Omega.{arith}
-use borrow.Author.Rules.{rules}
 use Rattle.feeding.proofs.LeftRecords.{order_none, order_first, order_ready, order_more}
-use Prim.Native.Nat.{ℕ, ◌<◌}
-use Rattle.feeding.proofs.unplanned.+put_in_order.{statement}
 use Rattle.feeding.proofs.unplanned.+put_in_order.Goals as goal
 
 pub returns-then-count-eq0 : goal.returns-then-count-eq0

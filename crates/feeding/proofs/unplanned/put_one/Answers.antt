@@ -1,6 +1,5 @@
 -- `unplanned::put_one` meets its contract. Assumes nothing.
 use Rattle.feeding.proofs.LeftRecords.{cell_room, put_is}
-use borrow.Author.Rules.{rules}
 use Rattle.feeding.proofs.unplanned.put_one.Goals as goal
 
 pub get_cell-x-requires : goal.get_cell-x-requires

@@ -1,7 +1,6 @@
 -- `Machine::start` meets its contract. Assumes nothing.
 use Rattle.checks.proofs.Checks.{state_long}
 use Rattle.machine.proofs.Starts.{start_length, start_done}
-use borrow.Author.Rules.{rules}
 use Rattle.machine.proofs.Machine.start.Goals as goal
 
 pub start_line-answer-requires : goal.start_line-answer-requires

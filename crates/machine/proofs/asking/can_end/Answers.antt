@@ -1,6 +1,5 @@
 -- `asking::can_end` meets its contract. Assumes nothing.
 use Rattle.machine.proofs.Asks.{asks_state, end_refused, end_right}
-use borrow.Author.Rules.{rules}
 use Rattle.machine.proofs.asking.can_end.Goals as goal
 
 pub can_end-requires : goal.can_end-requires

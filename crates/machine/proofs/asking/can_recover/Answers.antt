@@ -1,6 +1,5 @@
 -- `asking::can_recover` meets its contract. Assumes nothing.
 use Rattle.machine.proofs.Asks.{asks_state, recover_refused, recover_right}
-use borrow.Author.Rules.{rules}
 use Rattle.machine.proofs.asking.can_recover.Goals as goal
 
 pub can_recover-requires : goal.can_recover-requires

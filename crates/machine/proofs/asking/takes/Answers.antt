@@ -1,6 +1,5 @@
 -- `asking::takes` meets its contract. Assumes nothing.
 use Rattle.machine.proofs.Asks.{asks_state, takes_refused, takes_right_lem}
-use borrow.Author.Rules.{rules}
 use Rattle.machine.proofs.asking.takes.Goals as goal
 
 pub takes_right-requires : goal.takes_right-requires

@@ -1,7 +1,6 @@
 -- `asking::takes_right` meets its contract. Assumes nothing.
 use mathlib.Core.Path.{◌∙◌}
 use Rattle.machine.proofs.Asks.{takes_consumed, takes_low, takes_high, takes_asked}
-use borrow.Author.Rules.{rules}
 use Rattle.machine.proofs.asking.takes_right.Goals as goal
 
 pub returns-then-reading_count-eq0 : goal.returns-then-reading_count-eq0

@@ -1,7 +1,6 @@
 -- `starting::start_line` meets its contract. Assumes nothing.
 use Rattle.table.proofs.Checking.{belongs_of}
 use Rattle.machine.proofs.Starts.{start_wrong, start_right}
-use borrow.Author.Rules.{rules}
 use Rattle.machine.proofs.starting.start_line.Goals as goal
 
 pub action_of-action-requires : goal.action_of-action-requires

@@ -1,6 +1,5 @@
 -- `recovery::again::longer_cell` meets its contract. Assumes nothing.
 use Rattle.recovery.specs.Again.{longer_cell}
-use borrow.Author.Rules.{rules}
 use Rattle.recovery.proofs.again.longer_cell.Goals as goal
 
 pub returns : goal.returns

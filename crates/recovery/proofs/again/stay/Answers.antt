@@ -1,6 +1,5 @@
 -- `recovery::again::stay` meets its contract. Assumes nothing.
 use Rattle.recovery.proofs.AgainStays.{cell_room, stays_way}
-use borrow.Author.Rules.{rules}
 use Rattle.recovery.proofs.again.stay.Goals as goal
 
 pub longer_cell-longer-requires : goal.longer_cell-longer-requires

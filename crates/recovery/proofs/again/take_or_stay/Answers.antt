@@ -1,6 +1,5 @@
 -- `recovery::again::take_or_stay` meets its contract. Assumes nothing.
 use Rattle.recovery.proofs.AgainTurns.{refused_way, took_way, too_many_way, ready_to_stay, stays_way}
-use borrow.Author.Rules.{rules}
 use Rattle.recovery.proofs.again.take_or_stay.Goals as goal
 
 pub returns-then-so-ge-MAX_CHAINS : goal.returns-then-so-ge-MAX_CHAINS

@@ -1,8 +1,6 @@
 -- `recovery::looking::recover_one` meets its contract. Assumes nothing.
 use native.Mathlib.Omega.{arith}
-use borrow.Author.Rules.{rules}
 use mathlib.Core.Path.{ap}
-use Prim.Native.Nat.{ℕ, ◌<◌}
 use Rattle.actions.specs.declared.Top.{Top}
 use Rattle.recovery.proofs.LookingOne.{one_none, one_held, ready_held, ready_take, one_refused, one_took, one_not, Left, pops_left, ready_rest, one_left}
 use Rattle.recovery.proofs.looking.+recover_one.Goals as goal

@@ -1,5 +1,4 @@
 -- `recovery::looking::below_top` meets its contract. Assumes nothing.
-use borrow.Author.Rules.{rules}
 use Rattle.recovery.proofs.LookingPops.{top_in}
 use Rattle.recovery.proofs.looking.below_top.Goals as goal
 
