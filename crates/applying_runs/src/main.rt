@@ -335,31 +335,36 @@ fn run(rt: &HostRuntime, title: &[u8], path: &[u8], value: u32) {
     }
 }
 
-fn main(rt: HostRuntime) {
+// Lines of the known runs.
+fn known_lines(rt: &HostRuntime) {
     run(
-        &rt,
+        rt,
         b"P3: T1, `3 9 0 1` and `4 0 1 2`: a month and a day\n",
         b"T1",
         9,
     );
     run(
-        &rt,
+        rt,
         b"P4: T1, `3 20 0 1` and `4 0 1 2`: no month\n",
         b"T1",
         20,
     );
     run(
-        &rt,
+        rt,
         b"P5: T1, `3 40 0 1` and `4 0 1 2`: neither\n",
         b"T1",
         40,
     );
     run(
-        &rt,
+        rt,
         b"P10: T4, `3 9 0 1`, then `4 0 1 2`: the empty rule's chain is refused, the shift is not\n",
         b"T4",
         9,
     );
+}
+
+fn main(rt: HostRuntime) {
+    known_lines(&rt);
     run(
         &rt,
         b"rule 0 twice in a record: each is its own chain\n",
