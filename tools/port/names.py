@@ -12,7 +12,7 @@ import sys
 
 ROOT = sys.argv[1] if len(sys.argv) > 1 else "."
 TOKEN = re.compile(r"[^\s(){}\[\];,.«»\"`]+")
-DEFINED = re.compile(r"^(\s*)(?:(?:abbrev|unfoldable|pub|data|record|axiom)\s+)*([^\s:(){}λ]+)\s*:(?:\s|$)")
+DEFINED = re.compile(r"^(\s*)(?:(?:abbrev|unfoldable|pub|data|record|axiom)\s+)*([^\s:(){}λ]+)(?:\s*\{ℓ\})?\s*:(?:\s|$)")
 RECORD = re.compile(r"^(\s*)(?:pub\s+)?record\s.*where\s*$")
 OWN_PROOF = ("Answers.antt", "Invariants.antt", "Proof.antt")
 # Names of the library, where some file has a lemma of its own of that name.
@@ -44,7 +44,7 @@ def defined():
     """All names that specs/ and the files of lemmas define, and which of them are fields of records."""
     names, fields = set(), set()
     for path in files(".antt"):
-        if os.path.basename(path) in OWN_PROOF:
+        if os.path.basename(path) in OWN_PROOF and f"{os.sep}proofs{os.sep}" in path:
             continue
         inside = None
         with open(path, encoding="utf-8") as f:

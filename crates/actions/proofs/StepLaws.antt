@@ -10,7 +10,7 @@ use Rattle.meaning.specs.declared.StateNo.{StateNo}
 use Rattle.meaning.specs.declared.View.{View}
 use Rattle.cells.specs.Pool.{put_cell}
 use Rattle.cells.specs.declared.Cell.{Cell}
-use Rattle.table.specs.Answers.{gotoAnswer}
+use Rattle.table.specs.Answers.{goto_answer}
 use Rattle.table.specs.declared.Goto.{Goto}
 use Rattle.table.specs.declared.Goto.TheVariants as goto
 use Rattle.actions.specs.Acting.{acted_of, stack_in, Pops, reduced_cell, shifted_cell}
@@ -23,13 +23,13 @@ use Rattle.actions.specs.declared.kinds.Acted.{Acted}
 use Rattle.actions.specs.declared.kinds.Acted.TheVariants as acted
 
 -- where a goto leads
-pub goto_to : (m : Maybe ℕ) (g : Goto) (s : StateNo) → g ≡ gotoAnswer m → g ≡ goto.To s → s.0 ≡ target m
-unfolding gotoAnswer
+pub goto_to : (m : Maybe ℕ) (g : Goto) (s : StateNo) → g ≡ goto_answer m → g ≡ goto.To s → s.0 ≡ target m
+unfolding goto_answer
 goto_to nothing g s e f = let z : ◌≡◌ {A = ℕ} 0 1 = cc in absurd (omega arith)
 goto_to (just to) g s e f = let z : state_no to ≡ s = cc in sym (ap (λ (x : StateNo). x.0) z)
 
-pub goto_none : (m : Maybe ℕ) (g : Goto) → g ≡ gotoAnswer m → g ≡ goto.Nothing → 0 ≡ target m
-unfolding gotoAnswer
+pub goto_none : (m : Maybe ℕ) (g : Goto) → g ≡ goto_answer m → g ≡ goto.Nothing → 0 ≡ target m
+unfolding goto_answer
 goto_none nothing g e f = refl
 goto_none (just to) g e f = let z : ◌≡◌ {A = ℕ} 0 1 = cc in absurd (omega arith)
 

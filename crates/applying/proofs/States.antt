@@ -19,7 +19,7 @@ use Rattle.cells.specs.Pool.{cell_size, cell_at}
 use Rattle.cells.specs.Stacks.{Pool, entries_of}
 use Rattle.cells.specs.declared.Cell.{Cell}
 use Rattle.cells.proofs.Stacks.{linked_top}
-use Rattle.table.specs.Answers.{Belongs, actionAnswer}
+use Rattle.table.specs.Answers.{Belongs, action_answer}
 use Rattle.table.specs.declared.Action.{Action}
 use Rattle.chains.specs.Actions.{shift_of, rules_from}
 use Rattle.chains.specs.Following.{FollowsRules}
@@ -59,7 +59,7 @@ cell_room p y f =
     omega arith
 
 module _ (p : Place) (belongs : Belongs p.table p.ask.view) (x : Cell) (ex : x ≡ cell_at p.work p.reading.cell.0)
-    (a : Action) (ea : a ≡ actionAnswer (action_of (table_of p.table) x.state.0 p.ask.term.class)) where
+    (a : Action) (ea : a ≡ action_answer (action_of (table_of p.table) x.state.0 p.ask.term.class)) where
   abbrev t : Table
   t = table_of p.table
 

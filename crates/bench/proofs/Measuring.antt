@@ -6,7 +6,7 @@ use Prim.Native.Nat.{ℕ, ◌<◌, ◌≤◌}
 use lib.ListN.{length}
 use borrow.Author.Tests.{eq-eqb, ne_eqb, le-leb, lt-leb}
 use Rattle.meaning.specs.Basics.{Maybe, nothing, just}
-use Rattle.meaning.specs.Answers.{feedNumbers}
+use Rattle.meaning.specs.Answers.{feed_numbers}
 use Rattle.meaning.specs.TableFile.{table_of, action_of, goto_of, target}
 use Rattle.meaning.specs.TableRight.{table_ok}
 use Rattle.meaning.specs.declared.FeedNumbers.{FeedNumbers}
@@ -16,7 +16,7 @@ use Rattle.state.specs.Areas.{loaded}
 use Rattle.state.specs.Check.{valid_state}
 use Rattle.state.specs.Layout.{state_len, work_len, state_cells}
 use Rattle.state.specs.Readings.{used_of}
-use Rattle.table.specs.Answers.{check_of, actionAnswer, gotoAnswer}
+use Rattle.table.specs.Answers.{check_of, action_answer, goto_answer}
 use Rattle.table.specs.declared.Action.{Action}
 use Rattle.table.specs.declared.Checked.{Checked}
 use Rattle.table.specs.declared.Checked.TheVariants as table-check
@@ -54,8 +54,8 @@ module _ (table : List ℕ) (q : Checked) (says : q ≡ check_of table) where
   unfolding goto_target
   goto_wrong state nonterminal e = rw (wrong_of table q says e)
 
-pub target_is : (table : List ℕ) (state class : ℕ) (a : Action) → a ≡ actionAnswer (action_of (table_of table) state class) → a.target.0 ≡ target (action_of (table_of table) state class).shift
-unfolding actionAnswer
+pub target_is : (table : List ℕ) (state class : ℕ) (a : Action) → a ≡ action_answer (action_of (table_of table) state class) → a.target.0 ≡ target (action_of (table_of table) state class).shift
+unfolding action_answer
 target_is table state class a e = ap (λ (b : Action). b.target.0) e
 
 -- A goto's place, by what the lookup gives.
@@ -63,12 +63,12 @@ abbrev place_in : Goto → ℕ
 place_in goto.Nothing = 0
 place_in (goto.To s) = s.0
 
-place_of_lem : (m : Maybe ℕ) → place_in (gotoAnswer m) ≡ place_of m
-unfolding gotoAnswer
+place_of_lem : (m : Maybe ℕ) → place_in (goto_answer m) ≡ place_of m
+unfolding goto_answer
 place_of_lem nothing = refl
 place_of_lem (just to) = refl
 
-module _ (table : List ℕ) (state nonterminal : ℕ) (g : Goto) (e : g ≡ gotoAnswer (goto_of (table_of table) state nonterminal)) where
+module _ (table : List ℕ) (state nonterminal : ℕ) (g : Goto) (e : g ≡ goto_answer (goto_of (table_of table) state nonterminal)) where
   pub goto_there : (s : StateNo) → g ≡ goto.To s → s.0 ≡ place_of (goto_of (table_of table) state nonterminal)
   goto_there s f = ap place_in (sym f ∙ e) ∙ place_of_lem (goto_of (table_of table) state nonterminal)
 
@@ -77,7 +77,7 @@ module _ (table : List ℕ) (state nonterminal : ℕ) (g : Goto) (e : g ≡ goto
 
 -- A feed.
 pub feed_measured : (table state work : List ℕ) (x : Term) (run : FeedRun) (n : FeedNumbers) (r : ℕ) (state' work' : List ℕ) →
-    RunPromise table state work x 32 run state' work' → n ≡ feedNumbers run.answer → r ≡ n.answer → FeedMeasured table state work x r state' work'
+    RunPromise table state work x 32 run state' work' → n ≡ feed_numbers run.answer → r ≡ n.answer → FeedMeasured table state work x r state' work'
 feed_measured table state work x run n r state' work' p e f = record { run = run; promise = p; number = f ∙ ap (λ (m : FeedNumbers). m.answer) e }
 
 -- The check of a state.

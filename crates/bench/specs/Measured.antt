@@ -1,6 +1,6 @@
 -- What the measured calls answer and leave.
 use Rattle.std.specs.Prelude.{◌≡◌, Bool, List, ℕ, eqb, leb, length}
-use Rattle.meaning.specs.Answers.{startNumber, feedNumbers}
+use Rattle.meaning.specs.Answers.{start_number, feed_numbers}
 use Rattle.meaning.specs.Basics.{Maybe, nothing, just}
 use Rattle.std.specs.Prelude.{if◌then◌else◌}
 use Rattle.meaning.specs.Limits.{max_errors}
@@ -34,12 +34,12 @@ goto_target table state nonterminal = if table_ok table then place_of (goto_of (
 pub record StartMeasured (table state work : List ℕ) (r : ℕ) (state' work' : List ℕ) : Type 0 where
   pub answer : StartAnswer
   pub promise : StartPromise table state work answer state' work'
-  pub number : r ≡ startNumber answer
+  pub number : r ≡ start_number answer
 
 pub record FeedMeasured (table state work : List ℕ) (x : Term) (r : ℕ) (state' work' : List ℕ) : Type 0 where
   pub run : FeedRun
   pub promise : RunPromise table state work x max_errors run state' work'
-  pub number : r ≡ (feedNumbers run.answer).answer
+  pub number : r ≡ (feed_numbers run.answer).answer
 
 -- The parts of a feed, on any bytes.
 unfoldable pub state_right : List ℕ → (states : ℕ) → ℕ

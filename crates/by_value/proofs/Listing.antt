@@ -8,7 +8,7 @@ use mathlib.Core.List.{List, [], map}
 use Prim.Native.Nat.{ℕ}
 use lib.Dec.{leb}
 use lib.ListN.{length, get_or, length-map}
-use Rattle.meaning.specs.Basics.{nothing, just, isNil}
+use Rattle.meaning.specs.Basics.{nothing, just, is_nil}
 use Rattle.std.specs.Prelude.{if◌then◌else◌}
 use Rattle.meaning.specs.Calls.{State, check_state, checked, written, wrong_term, FeedCall, feed_refused, feed_ended, feed_right, feed_call, StackCall, no_reading, stack_refused, stack_read, stack_right, stack_call}
 use Rattle.meaning.specs.Feeding.{feed}
@@ -68,7 +68,7 @@ feed_ended_lists f = record { es = f.errors; listed = λ ys. refl; counted = λ 
 feed_right_lists : (t : Table) (x : Term) (rs : List Reading) (next : ℕ) → Lists errors_in count_in besides (λ ys. feed_right t x rs ys next)
 unfolding feed_right
 feed_right_lists t x rs next =
-    if_lists errors_in count_in besides (isNil rs) (λ ys. feed_refused (just rs) ys Consumed) _ (feed_refused_lists (just rs) Consumed)
+    if_lists errors_in count_in besides (is_nil rs) (λ ys. feed_refused (just rs) ys Consumed) _ (feed_refused_lists (just rs) Consumed)
     (if_lists errors_in count_in besides (wrong_term t.counts.classes x) (λ ys. feed_refused (just rs) ys WrongArgument) _ (feed_refused_lists (just rs) WrongArgument) (feed_ended_lists (feed t x rs next)))
 
 pub feed_lists : (lengths : Bool) (table : List ℕ) (s : State) (x : Term) (next : ℕ) → Lists errors_in count_in besides (λ ys. feed_call lengths table s x ys next)
@@ -95,7 +95,7 @@ stack_read_lists r = record { es = map seen r.stack; listed = λ ys. refl; count
 stack_right_lists : (rs : List Reading) (i : ℕ) → Lists entries_in height_in says_in (stack_right rs i)
 unfolding stack_right
 stack_right_lists rs i =
-    if_lists entries_in height_in says_in (isNil rs) (λ ys. stack_refused ys Consumed) _ (stack_refused_lists Consumed)
+    if_lists entries_in height_in says_in (is_nil rs) (λ ys. stack_refused ys Consumed) _ (stack_refused_lists Consumed)
     (if_lists entries_in height_in says_in (leb (length rs) i) (λ ys. stack_refused ys WrongArgument) _ (stack_refused_lists WrongArgument) (stack_read_lists (get_or rs i no_reading)))
 
 pub stack_lists : (lengths : Bool) (table : List ℕ) (s : State) (i : ℕ) → Lists entries_in height_in says_in (stack_call lengths table s i)

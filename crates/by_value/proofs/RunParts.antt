@@ -7,7 +7,7 @@ use native.Mathlib.Omega.{arith}
 use lib.Dec.{ltb}
 use lib.ListN.{length}
 use borrow.Author.Tests.{lt-ltb, le-ltb, le-leb, lt-leb}
-use Rattle.meaning.specs.Answers.{feedNumbers}
+use Rattle.meaning.specs.Answers.{feed_numbers}
 use Rattle.std.specs.Prelude.{if◌then◌else◌}
 use Rattle.meaning.specs.Calls.{wrong_class, wrong_term}
 use Rattle.meaning.specs.Feeding.{first, finish, feed}
@@ -77,7 +77,7 @@ module _ (state work : List ℕ) (e : Ended) (y : EndsReady state work e) where
         long = l;
       })
     where
-      numbers : (t : Bool) → feedNumbers (run_of t e.walked errors).answer ≡ record { answer = if t then 0 else 12; errors = length (errors_of work e.counts.errors); walked = e.walked }
+      numbers : (t : Bool) → feed_numbers (run_of t e.walked errors).answer ≡ record { answer = if t then 0 else 12; errors = length (errors_of work e.counts.errors); walked = e.walked }
       numbers true = λ i. record { answer = 0; errors = g.count_is i; walked = e.walked }
       numbers false = λ i. record { answer = 12; errors = g.count_is i; walked = e.walked }
 

@@ -6,8 +6,8 @@ use Prim.Native.Nat.{ℕ, ◌+◌, ◌-◌, ◌*◌, ◌≤◌}
 use native.Mathlib.Omega.{arith}
 use lib.Dec.{eqb}
 use lib.ListN.{length}
-use Rattle.meaning.specs.Answers.{feedNumbers}
-use Rattle.meaning.specs.Basics.{isNil, just}
+use Rattle.meaning.specs.Answers.{feed_numbers}
+use Rattle.meaning.specs.Basics.{is_nil, just}
 use Rattle.std.specs.Prelude.{if◌then◌else◌}
 use Rattle.meaning.specs.Calls.{State, FeedCall, feed_refused, feed_ended, feed_right, feed_call, wrong_term}
 use Rattle.meaning.specs.Feeding.{feed}
@@ -81,12 +81,12 @@ module _ (table : List ℕ) (view : View) (state work : List ℕ) (y : StagesRea
   unfolding feed_right readings_from
   right_consumed n r e z g = rw g (line_refused table state (feed_in table state x) Consumed (refused_here Consumed ∙ rw (nil (count_of state) (sym e ∙ z))))
     where
-      nil : (k : ℕ) → k ≡ 0 → isNil (readings_from state 18432 0 k) ≡ true
+      nil : (k : ℕ) → k ≡ 0 → is_nil (readings_from state 18432 0 k) ≡ true
       nil k q = rw q
 
   module _ (n : ℕ) (e : n ≡ count_of state) (z : n ≡ 0 → ⊥) (b : Bool) (f : b ≡ wrong_term view.counts.classes x) where
-    some : isNil (readings_of state) ≡ false
-    some = ap (λ (k : ℕ). isNil (readings_from state 18432 0 k)) (sym e) ∙ some_readings state n z
+    some : is_nil (readings_of state) ≡ false
+    some = ap (λ (k : ℕ). is_nil (readings_from state 18432 0 k)) (sym e) ∙ some_readings state n z
 
     wrong_is : wrong_term (table_of table).counts.classes x ≡ b
     unfolding table_of
@@ -142,12 +142,12 @@ module _ (table : List ℕ) (view : View) (state work : List ℕ) (y : StagesRea
             after : state_for table state' ≡ just (map (ren_reading c.rename) fed_here.readings)
             after = state_after (table_of table).counts.states fed_here.readings state state' c known_states
 
-            numbers : feedNumbers r.answer ≡ record { answer = fed_here.answer; errors = length fed_here.errors; walked = fed_here.walked }
+            numbers : feed_numbers r.answer ≡ record { answer = fed_here.answer; errors = length fed_here.errors; walked = fed_here.walked }
             numbers =
                 let a = held.answer in let e = held.errors in let w = held.walked in
                 d.answers ∙ (λ i. record { answer = sym a i; errors = length (e i); walked = w i })
 
-            not_refused : (t : Bool) → (feedNumbers r.answer).answer ≡ (if t then 0 else 12) → (1 ≤ (feedNumbers r.answer).answer) × ((feedNumbers r.answer).answer ≤ 11) → ⊥
+            not_refused : (t : Bool) → (feed_numbers r.answer).answer ≡ (if t then 0 else 12) → (1 ≤ (feed_numbers r.answer).answer) × ((feed_numbers r.answer).answer ≤ 11) → ⊥
             not_refused true m p = let p0 = p.0 in omega arith
             not_refused false m p = let p1 = p.1 in omega arith
 

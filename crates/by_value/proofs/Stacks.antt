@@ -8,7 +8,7 @@ use lib.Dec.{eqb}
 use lib.ListN.{length, take, get_or, set, replicate, length-map, length-replicate}
 use lib.Seq.{sets, length-sets, sets-eq, take_at, get_or-take, length-take-le}
 use borrow.Author.Tests.{eqb-true, le-leb, lt-leb}
-use Rattle.meaning.specs.Basics.{isNil}
+use Rattle.meaning.specs.Basics.{is_nil}
 use Rattle.meaning.specs.Calls.{StackCall, stack_right, stack_call, stack_refused, stack_read, no_reading}
 use Rattle.meaning.specs.Limits.{max_height}
 use Rattle.meaning.specs.Readings.{seen}
@@ -176,7 +176,7 @@ module _ (state : List ℕ) (number count : ℕ) (e : count ≡ count_of state) 
   stack_consumed r f z = refused_promise (stack_right (readings_of state) number) r Consumed f (rw (← e, z))
 
   module _ (some : count ≡ 0 → ⊥) where
-    not_nil : isNil (readings_of state) ≡ false
+    not_nil : is_nil (readings_of state) ≡ false
     not_nil = some_readings state (count_of state) (λ z. some (e ∙ z))
 
     pub stack_none : (r : StackRead) → r ≡ refused_read WrongArgument → count ≤ number → ReadPromise (stack_right (readings_of state) number) r

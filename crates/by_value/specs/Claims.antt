@@ -1,6 +1,6 @@
 -- What is claimed of the calls by value, as definitions: each is a public call, each has one outcome, and what is claimed of the public calls holds of them. Theorems: proofs/Claims.
 use Rattle.std.specs.Prelude.{◌≡◌, false, List, [], ◌∷◌, map, ℕ, length}
-use Rattle.meaning.specs.Answers.{done, feedNumbers, stackNumbers}
+use Rattle.meaning.specs.Answers.{done, feed_numbers, stack_numbers}
 use Rattle.meaning.specs.Basics.{AllOf}
 use Rattle.meaning.specs.Demand3.{Same, Alike, ByChains}
 use Rattle.meaning.specs.KnownRuns.{Outcome, Run, known_runs}
@@ -92,20 +92,20 @@ pub record HoldsByValue : Type 0 where
   pub stack_keeps : (table state : List ℕ) (i : ℕ) (r : StackRead) →
       ReadPromise (stack_on (lists_right state max_height) table state i) r → StackKeeps no_entries.list r.answer r.entries.list
   pub feed_leaves : (table state work : List ℕ) (x : Term) (r : FeedRun) (state' work' : List ℕ) →
-      RunPromise table state work x max_errors r state' work' → PassedCheck (feedNumbers r.answer).answer → Fits table state'
+      RunPromise table state work x max_errors r state' work' → PassedCheck (feed_numbers r.answer).answer → Fits table state'
   pub feed_takes : (table state work : List ℕ) (x : Term) (r : FeedRun) (state' work' : List ℕ) →
-      RunPromise table state work x max_errors r state' work' → Fits table state → ((feedNumbers r.answer).answer ≡ 3 → ⊥) × Fits table state'
+      RunPromise table state work x max_errors r state' work' → Fits table state → ((feed_numbers r.answer).answer ≡ 3 → ⊥) × Fits table state'
   pub stack_leaves : (table state : List ℕ) (i : ℕ) (r : StackRead) →
-      ReadPromise (stack_on (lists_right state max_height) table state i) r → PassedCheck (stackNumbers r.answer).answer → Fits table state
+      ReadPromise (stack_on (lists_right state max_height) table state i) r → PassedCheck (stack_numbers r.answer).answer → Fits table state
   pub stack_takes : (table state : List ℕ) (i : ℕ) (r : StackRead) →
-      ReadPromise (stack_on (lists_right state max_height) table state i) r → Fits table state → (stackNumbers r.answer).answer ≡ 3 → ⊥
+      ReadPromise (stack_on (lists_right state max_height) table state i) r → Fits table state → (stack_numbers r.answer).answer ≡ 3 → ⊥
   pub order : (table : List ℕ) (x : Term) (state work : List ℕ) (r : FeedRun) (state' work' twin spare : List ℕ) (q : FeedRun) (twin' spare' : List ℕ) →
       RunPromise table state work x max_errors r state' work' → RunPromise table twin spare x max_errors q twin' spare' →
       Same (map plain (readings_of state)) (map plain (readings_of twin)) →
-      (Refusing (feedNumbers r.answer).answer → ⊥) → Recovers table state x ≡ false → PassedCheck (feedNumbers q.answer).answer →
+      (Refusing (feed_numbers r.answer).answer → ⊥) → Recovers table state x ≡ false → PassedCheck (feed_numbers q.answer).answer →
       (Recovers table twin x ≡ false) × Alike (fed_by r.answer state' r.errors.list) (fed_by q.answer twin' q.errors.list)
   pub chains : (table : List ℕ) (x : Term) (state work : List ℕ) (r : FeedRun) (state' work' : List ℕ) →
-      RunPromise table state work x max_errors r state' work' → (feedNumbers r.answer).answer ≡ done → Recovers table state x ≡ false →
+      RunPromise table state work x max_errors r state' work' → (feed_numbers r.answer).answer ≡ done → Recovers table state x ≡ false →
       ByChains (table_of table) x (readings_of state) (fed_by r.answer state' r.errors.list)
   -- Each is a call of a run, with the array in the place of the lent list: so what is claimed of runs (`RunDetermined`) is claimed of those in which calls are made by value.
   pub feed_answered : (table state work : List ℕ) (x : Term) (r : FeedRun) (state' work' : List ℕ) → RunPromise table state work x max_errors r state' work' →

@@ -1,6 +1,6 @@
 -- What the feed by value asks and promises: the public promise, where the array by value is what becomes of a lent list without records.
 use Rattle.std.specs.Prelude.{◌≡◌, Bool, true, List, ℕ, ◌≤◌, length}
-use Rattle.meaning.specs.Answers.{done, notTaken, feedNumbers}
+use Rattle.meaning.specs.Answers.{done, not_taken, feed_numbers}
 use Rattle.std.specs.Prelude.{if◌then◌else◌}
 use Rattle.meaning.specs.Bounds.{max_walked_by_feed}
 use Rattle.meaning.specs.Calls.{FeedCall, feed_right, feed_call}
@@ -46,7 +46,7 @@ pub record StagesReady (table : List ℕ) (view : View) (state work : List ℕ) 
 
 -- A feed that ended, as the work area holds it.
 abbrev pub fed_in : List ℕ → Ended → Fed
-fed_in w e = record { answer = if e.taken then done else notTaken; readings = results_of w e.list e.counts.results; errors = errors_of w e.counts.errors; walked = e.walked; next = e.counts.cells }
+fed_in w e = record { answer = if e.taken then done else not_taken; readings = results_of w e.list e.counts.results; errors = errors_of w e.counts.errors; walked = e.walked; next = e.counts.cells }
 
 pub record EndsReady (state work : List ℕ) (e : Ended) : Type 0 where
   pub long : length state ≡ state_len
@@ -55,7 +55,7 @@ pub record EndsReady (state work : List ℕ) (e : Ended) : Type 0 where
 
 -- Its numbers, its readings committed, its errors by value.
 pub record EndedRun (f : Fed) (state : List ℕ) (r : FeedRun) (state' : List ℕ) : Type 0 where
-  pub answers : feedNumbers r.answer ≡ record { answer = f.answer; errors = length f.errors; walked = f.walked }
+  pub answers : feed_numbers r.answer ≡ record { answer = f.answer; errors = length f.errors; walked = f.walked }
   pub committed : Committed f.readings state state'
   pub errors_are : ByValue max_errors no_record f.errors r.errors.list r.errors.count
   pub long : length state' ≡ length state

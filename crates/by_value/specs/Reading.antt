@@ -1,6 +1,6 @@
 -- Reading a stack out: the entries by value, top first, and what the call by value answers.
 use Rattle.std.specs.Prelude.{◌≡◌, true, List, [], ◌∷◌, ℕ, zero, suc, ◌≤◌, length, replicate}
-use Rattle.meaning.specs.Answers.{stackNumbers}
+use Rattle.meaning.specs.Answers.{stack_numbers}
 use Rattle.meaning.specs.Calls.{StackCall}
 use Rattle.meaning.specs.Limits.{max_height}
 use Rattle.meaning.specs.declared.Entry.{Entry as SeenEntry}
@@ -40,7 +40,7 @@ pub record RightState (state : List ℕ) : Type 0 where
 
 -- A call's answer, and its entries: the array by value is what becomes of a list without entries, with the height beside it.
 pub record ReadPromise (call : List SeenEntry → StackCall) (r : StackRead) : Type 0 where
-  pub answers : stackNumbers r.answer ≡ (call no_entries.list).says
+  pub answers : stack_numbers r.answer ≡ (call no_entries.list).says
   pub entries_are : r.entries.list ≡ (call no_entries.list).entries
   pub count_is : r.entries.count ≡ (call no_entries.list).says.height
   pub few : r.entries.count ≤ max_height

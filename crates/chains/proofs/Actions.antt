@@ -11,7 +11,7 @@ use Rattle.std.specs.Prelude.{if◌then◌else◌}
 use Rattle.meaning.specs.TableFile.{ActionRecord, target, table_of, action_of}
 use Rattle.meaning.specs.TableRight.{shifts}
 use Rattle.meaning.specs.declared.View.{View}
-use Rattle.table.specs.Answers.{Belongs, actionAnswer}
+use Rattle.table.specs.Answers.{Belongs, action_answer}
 use Rattle.table.specs.declared.Action.{Action}
 use Rattle.table.proofs.Bounds.{answer_rules, action_found_within}
 use Rattle.chains.specs.Actions.{shift_of, rules_from}
@@ -29,15 +29,15 @@ more_rules a i lt le =
     ∙ rw (get_or-take a.count a.rules i 0 lt, add-one i)
 
 -- What a lookup in a checked table gives.
-record_shift : (r : ActionRecord) → shift_of (actionAnswer r) ≡ r.shift
-unfolding actionAnswer
+record_shift : (r : ActionRecord) → shift_of (action_answer r) ≡ r.shift
+unfolding action_answer
 record_shift r = at r.shift
   where
     at : (sh : Maybe ℕ) → (if shifts sh then just (target sh) else nothing) ≡ sh
     at nothing = refl
     at (just to) = refl
 
-module _ (s : List ℕ) (view : View) (belongs : Belongs s view) (state class : ℕ) (a : Action) (is : a ≡ actionAnswer (action_of (table_of s) state class)) where
+module _ (s : List ℕ) (view : View) (belongs : Belongs s view) (state class : ℕ) (a : Action) (is : a ≡ action_answer (action_of (table_of s) state class)) where
   pub found_shift : shift_of a ≡ (action_of (table_of s) state class).shift
   found_shift = ap shift_of is ∙ record_shift (action_of (table_of s) state class)
 

@@ -17,7 +17,7 @@ use Rattle.meaning.specs.declared.Refusal.TheVariants.{TooHigh, TooManyReadings}
 use Rattle.meaning.specs.declared.View.{View}
 use Rattle.meaning.proofs.Trees.{ends_chain, no_chain, if_not, if_yes, walk_of, count_of, reduces, walk_is}
 use Rattle.numbers.specs.Writing.{Agree}
-use Rattle.table.specs.Answers.{Belongs, actionAnswer}
+use Rattle.table.specs.Answers.{Belongs, action_answer}
 use Rattle.table.specs.declared.Action.{Action}
 use Rattle.chains.specs.Actions.{shift_of, rules_from}
 use Rattle.chains.specs.Following.{Follows, FollowsRules, FollowsRule, Plans}
@@ -146,7 +146,7 @@ module _ (left : ℕ) (t : Table) (room class : ℕ) (m : List ℕ) (n : ℕ) (w
 
 -- At a stack, by the action that a lookup gives of its top state.
 module _ (s : List ℕ) (view : View) (belongs : Belongs s view) (left room class : ℕ) (m : List ℕ) (n : ℕ) (w : Walk) where
-  pub follow_action : (st : List ℕ) (state : ℕ) (a : Action) → state ≡ get_or st 0 0 → a ≡ actionAnswer (action_of (table_of s) state class)
+  pub follow_action : (st : List ℕ) (state : ℕ) (a : Action) → state ≡ get_or st 0 0 → a ≡ action_answer (action_of (table_of s) state class)
       → Follows left (table_of s) room class st m n w → FollowsRules left (table_of s) room class (shift_of a) st (rules_from a 0) m n w
   unfolding record_at
   follow_action st state a top is f =

@@ -13,7 +13,7 @@ use Rattle.meaning.specs.Walk.{Walked, refused, or_no_goto, reduction}
 use Rattle.meaning.specs.declared.Rule.{Rule}
 use Rattle.meaning.specs.declared.StateNo.{StateNo}
 use Rattle.meaning.specs.declared.Refusal.TheVariants.{ReachesStart, NoGoto, TooHigh, ChainTooLong, WalkTooLong}
-use Rattle.table.specs.Answers.{gotoAnswer}
+use Rattle.table.specs.Answers.{goto_answer}
 use Rattle.table.specs.declared.Goto.{Goto}
 use Rattle.table.specs.declared.Goto.TheVariants as goto
 use Rattle.chains.specs.Simulated.{stack_of}
@@ -24,13 +24,13 @@ use Rattle.chains.specs.declared.reducing.Reduced.TheVariants.{Refused, To}
 use Rattle.chains.proofs.Arrays.{length_stack_of, drop_stack_of}
 
 -- what a goto's answer says of the goto
-no_goto : (m : Maybe ℕ) → goto.Nothing ≡ gotoAnswer m → m ≡ nothing
-unfolding gotoAnswer
+no_goto : (m : Maybe ℕ) → goto.Nothing ≡ goto_answer m → m ≡ nothing
+unfolding goto_answer
 no_goto nothing e = refl
 no_goto (just to) e = let z : ◌≡◌ {A = ℕ} 0 1 = cc in absurd (omega arith)
 
-some_goto : (m : Maybe ℕ) (s : StateNo) → goto.To s ≡ gotoAnswer m → m ≡ just s.0
-unfolding gotoAnswer
+some_goto : (m : Maybe ℕ) (s : StateNo) → goto.To s ≡ goto_answer m → m ≡ just s.0
+unfolding goto_answer
 some_goto nothing s e = let z : ◌≡◌ {A = ℕ} 0 1 = cc in absurd (omega arith)
 some_goto (just to) s e = let f : s ≡ state_no to = cc in ap (λ (q : StateNo). just q.0) (sym f)
 
@@ -67,9 +67,9 @@ module _ (t : Table) (k : ℕ) (stack : Stack) (at : Progress) where
             let e : drop q.len (stack_of stack.states stack.height) ≡ rest = rw (← len) (drop_stack_of stack.states n stack.height (omega arith)) in
             rw (lt-leb 1024 at.walked few, ne_eqb at.left 0 left, ← is, length_stack_of stack.states stack.height, lt-leb stack.height q.len (omega arith)) (ap (onward go) e)
 
-        module _ (top : StateNo) (on-top : top.0 ≡ get_or rest 0 0) (g : Goto) (found : g ≡ gotoAnswer (goto_of t top.0 q.left)) where
-          same_goto : g ≡ gotoAnswer (goto_of t (get_or rest 0 0) q.left)
-          same_goto = found ∙ ap (λ (s : ℕ). gotoAnswer (goto_of t s q.left)) on-top
+        module _ (top : StateNo) (on-top : top.0 ≡ get_or rest 0 0) (g : Goto) (found : g ≡ goto_answer (goto_of t top.0 q.left)) where
+          same_goto : g ≡ goto_answer (goto_of t (get_or rest 0 0) q.left)
+          same_goto = found ∙ ap (λ (s : ℕ). goto_answer (goto_of t s q.left)) on-top
 
           pub reduce_7 : g ≡ goto.Nothing → IsReduction t k stack at (Refused NoGoto)
           reduce_7 e = record { same = λ go. popped go ∙ rw (no_goto _ (sym e ∙ same_goto)); allowed = tt }

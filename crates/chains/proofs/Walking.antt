@@ -18,7 +18,7 @@ use Rattle.meaning.specs.declared.Refusal.TheVariants.{TooHigh}
 use Rattle.meaning.specs.declared.StateNo.{StateNo}
 use Rattle.meaning.proofs.Trees.{walk_is}
 use Rattle.numbers.specs.Writing.{Agree}
-use Rattle.table.specs.Answers.{Belongs, actionAnswer}
+use Rattle.table.specs.Answers.{Belongs, action_answer}
 use Rattle.table.specs.declared.Action.{Action}
 use Rattle.chains.specs.Actions.{shift_of, rules_from, too_high}
 use Rattle.chains.specs.Simulated.{stack_of, Pushed}
@@ -253,12 +253,12 @@ module _ (p : Place) (m m₁ : List ℕ) (below : Below p m m₁) where
 
 -- A state: its record's rules, unless it is reached too high up to shift.
 module _ (s : List ℕ) (ask : Ask) (stack : Stack) (at : Progress) (belongs : Belongs s ask.view) (top : StateNo) (on-top : top.0 ≡ get_or (stack_of stack.states stack.height) 0 0)
-    (a : Action) (is : a ≡ actionAnswer (action_of (table_of s) top.0 ask.class)) where
+    (a : Action) (is : a ≡ action_answer (action_of (table_of s) top.0 ask.class)) where
   abbrev here : ActionRecord
   here = action_of (table_of s) top.0 ask.class
 
   state_is : state_walk s ask stack at ≡ (if too_high a stack.height then refused TooHigh else rules_walk s ask stack at a 0)
-  unfolding state_walk rules_walk walk_state record_at actionAnswer
+  unfolding state_walk rules_walk walk_state record_at action_answer
   state_is =
       let st : List ℕ = stack_of stack.states stack.height in
       let go : Bool → Maybe ℕ → List ℕ → Walked =

@@ -7,7 +7,7 @@ use native.Mathlib.Omega.{arith}
 use lib.Dec.{eqb}
 use lib.ListN.{length}
 use borrow.Author.Tests.{eqb-true}
-use Rattle.meaning.specs.Basics.{isNil, just, nothing}
+use Rattle.meaning.specs.Basics.{is_nil, just, nothing}
 use Rattle.std.specs.Prelude.{if◌then◌else◌}
 use Rattle.meaning.specs.Calls.{check_state, checked}
 use Rattle.meaning.specs.Readings.{Reading}
@@ -109,7 +109,7 @@ checked_right table state v k refuse go =
     rw (k.belongs.ok, y)
 
 -- A count that is not 0 has readings.
-pub some_readings : (state : List ℕ) (n : ℕ) → (n ≡ 0 → ⊥) → isNil (readings_from state readings_at 0 n) ≡ false
+pub some_readings : (state : List ℕ) (n : ℕ) → (n ≡ 0 → ⊥) → is_nil (readings_from state readings_at 0 n) ≡ false
 unfolding readings_from
 some_readings state zero z = absurd (z refl)
 some_readings state (suc n) z = refl

@@ -7,7 +7,7 @@ use native.Mathlib.Omega.{arith}
 use lib.Dec.{eqb, ltb, leb}
 use lib.ListN.{length, get_or, take, drop, drop_of_length-le}
 use borrow.Author.Tests.{eq-eqb, ne_eqb, ltb-true, ltb-false, leb-true, leb-false, lt-ltb, le-ltb, le-leb, lt-leb}
-use Rattle.meaning.specs.Basics.{both, isNil}
+use Rattle.meaning.specs.Basics.{both, is_nil}
 use Rattle.meaning.proofs.Booleans.{no_false, not_no, not_yes, both_true, not_both}
 use Rattle.console.proofs.Trimming.{drop_at}
 use Rattle.console.specs.Text.{is_blank, blanks, digit_of, digits, number_from, greatest, grown_by, digits_at, ScanIs, past_blanks, number_at, last_number, next_number, value_of, short_of, term_at, begins_with, behind_word, first_of}
@@ -135,22 +135,22 @@ module _ (line : List ℕ) (at : ℕ) (r : Scan) (g : ScanIs line at r) where
 
   pub number_great : greatest < r.value → number.Not ≡ number_at line at
   unfolding number_at
-  number_great h = by (isNil (digits_at line at)) refl (ltb greatest (number_from 0 (digits_at line at))) refl
+  number_great h = by (is_nil (digits_at line at)) refl (ltb greatest (number_from 0 (digits_at line at))) refl
     where
-      by : (a : Bool) → isNil (digits_at line at) ≡ a → (b : Bool) → ltb greatest (number_from 0 (digits_at line at)) ≡ b → number.Not ≡ number_at line at
+      by : (a : Bool) → is_nil (digits_at line at) ≡ a → (b : Bool) → ltb greatest (number_from 0 (digits_at line at)) ≡ b → number.Not ≡ number_at line at
       by true p b q = rw p
       by false p true q = rw (p, q)
       by false p false q = let l = ltb-false greatest (number_from 0 (digits_at line at)) q in let e = g.same l in absurd (omega arith)
 
   pub number_is : (r.end ≡ at → ⊥) → r.value ≤ greatest → (next : ℕ) → next ≡ past_blanks line r.end → number.Is r.value next ≡ number_at line at
   unfolding number_at
-  number_is z h next f = by (isNil (digits_at line at)) refl (ltb greatest (number_from 0 (digits_at line at))) refl
+  number_is z h next f = by (is_nil (digits_at line at)) refl (ltb greatest (number_from 0 (digits_at line at))) refl
     where
-      none : (ds : List ℕ) → isNil ds ≡ true → length ds ≡ 0
+      none : (ds : List ℕ) → is_nil ds ≡ true → length ds ≡ 0
       none [] e = refl
       none (d ∷ ds) e = no_false e
 
-      by : (a : Bool) → isNil (digits_at line at) ≡ a → (b : Bool) → ltb greatest (number_from 0 (digits_at line at)) ≡ b → number.Is r.value next ≡ number_at line at
+      by : (a : Bool) → is_nil (digits_at line at) ≡ a → (b : Bool) → ltb greatest (number_from 0 (digits_at line at)) ≡ b → number.Is r.value next ≡ number_at line at
       by true p b q = let l = none (digits_at line at) p in let end = g.end in absurd (z (omega arith))
       by false p true q = let l = g.great (ltb-true greatest (number_from 0 (digits_at line at)) q) in absurd (omega arith)
       by false p false q =

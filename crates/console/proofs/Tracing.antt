@@ -7,7 +7,7 @@ use native.Mathlib.Omega.{arith}
 use lib.Dec.{eqb, ltb, leb}
 use lib.ListN.{length}
 use borrow.Author.Tests.{eq-eqb, ne_eqb, ltb-true, ltb-false, lt-ltb, le-ltb, leb-true, leb-false}
-use Rattle.meaning.specs.Answers.{number, stackNumbers}
+use Rattle.meaning.specs.Answers.{number, stack_numbers}
 use Rattle.meaning.specs.Basics.{nothing, just}
 use Rattle.std.specs.Prelude.{if◌then◌else◌}
 use Rattle.meaning.specs.Calls.{State, check_state, StackCall, stack_refused, stack_right, stack_call}
@@ -51,17 +51,17 @@ module _ (table state : List ℕ) (long : length state ≡ state_len) (i : ℕ) 
   unfolding lists_right
   right = rw (eq-eqb (length state) 18532 long)
 
-  told : eqb (stackNumbers r.answer).answer 0 ≡ ltb i (readings_left table state)
+  told : eqb (stack_numbers r.answer).answer 0 ≡ ltb i (readings_left table state)
   unfolding readings_left stack_call
   told =
       ap (λ (n : StackNumbers). eqb n.answer 0) (p.answers ∙ ap (λ (b : Bool). (stack_on b table state i no_entries.list).says) right)
       ∙ answers_there (table_ok table) (state_for table state) i
 
   pub reading_there : (height mark : ℕ) → r.answer ≡ Read height mark → true ≡ ltb i (readings_left table state)
-  reading_there height mark e = sym (ap (λ (q : StackAnswer). eqb (stackNumbers q).answer 0) e) ∙ told
+  reading_there height mark e = sym (ap (λ (q : StackAnswer). eqb (stack_numbers q).answer 0) e) ∙ told
 
   pub no_reading_lem : (k : Refusal) → r.answer ≡ Refused k → false ≡ ltb i (readings_left table state)
-  no_reading_lem k e = sym (ap (λ (q : StackAnswer). eqb (stackNumbers q).answer 0) e ∙ none k) ∙ told
+  no_reading_lem k e = sym (ap (λ (q : StackAnswer). eqb (stack_numbers q).answer 0) e ∙ none k) ∙ told
     where
       none : (j : Refusal) → eqb (number j) 0 ≡ false
       none j = let l = (number_range j).0 in ne_eqb (number j) 0 (λ z. omega arith)

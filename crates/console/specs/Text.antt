@@ -1,6 +1,6 @@
 -- What stands in a line of text: words, numbers in decimal with blanks between two, terms.
 use Rattle.std.specs.Prelude.{◌≡◌, Bool, true, false, List, [], ◌∷◌, ℕ, suc, ◌+◌, ◌-◌, ◌*◌, ◌<◌, ◌≤◌, eqb, ltb, leb, length, take, drop}
-use Rattle.meaning.specs.Basics.{both, either, isNil}
+use Rattle.meaning.specs.Basics.{both, either, is_nil}
 use Rattle.std.specs.Prelude.{if◌then◌else◌}
 use Rattle.console.specs.declared.words.Number.{Number}
 use Rattle.console.specs.declared.words.Number.TheVariants as number
@@ -62,7 +62,7 @@ pub record ScanIs (line : List ℕ) (at : ℕ) (r : Scan) : Type 0 where
 -- A number of at least one digit and at most 32 bits, and where the line goes on.
 unfoldable pub number_at : List ℕ → (at : ℕ) → Number
 number_at line at =
-    if isNil (digits_at line at) then number.Not
+    if is_nil (digits_at line at) then number.Not
     else if ltb greatest (number_from 0 (digits_at line at)) then number.Not
     else number.Is (number_from 0 (digits_at line at)) (past_blanks line (at + length (digits_at line at)))
 

@@ -7,7 +7,7 @@ use native.Mathlib.Omega.{arith}
 use lib.Dec.{ltb, leb, eqb}
 use lib.ListN.{length}
 use borrow.Author.Tests.{lt-ltb}
-use Rattle.meaning.specs.Basics.{both, either, nothing, just, isNil, every}
+use Rattle.meaning.specs.Basics.{both, either, nothing, just, is_nil, every}
 use Rattle.std.specs.Prelude.{if◌then◌else◌}
 use Rattle.meaning.specs.Bytes.{byte_at, u16_at}
 use Rattle.meaning.specs.Limits.{max_bytes}
@@ -121,7 +121,7 @@ unfolding numbers
 numbers_length zero s p = refl
 numbers_length (suc n) s p = ap suc (numbers_length n s (p + 2))
 
-numbers_some : (n : ℕ) (s : List ℕ) (p : ℕ) → not (isNil (numbers n s p)) ≡ ltb 0 n
+numbers_some : (n : ℕ) (s : List ℕ) (p : ℕ) → not (is_nil (numbers n s p)) ≡ ltb 0 n
 unfolding numbers
 numbers_some zero s p = refl
 numbers_some (suc n) s p = sym (lt-ltb 0 (suc n) (omega arith))

@@ -7,7 +7,7 @@ use mathlib.Core.List.{List, reverse}
 use lib.Dec.{eqb}
 use lib.ListN.{length, length-reverse}
 use borrow.Author.Tests.{eq-eqb, ne_eqb}
-use Rattle.meaning.specs.Basics.{either, isNil}
+use Rattle.meaning.specs.Basics.{either, is_nil}
 use Rattle.std.specs.Prelude.{if◌then◌else◌}
 use Rattle.meaning.specs.Readings.{Reading}
 use Rattle.meaning.specs.Feeding.{settles, must_recover, some_took, none_took}
@@ -68,7 +68,7 @@ module _ (w : List ℕ) (so : SoFar) (left : ℕ) (y : EndReady w so left) where
 
 -- Which end it is.
 module _ (recovers : Bool) (w : List ℕ) (so : SoFar) (left : ℕ) where
-  nil_is : (k : ℕ) → isNil (results_of w 41824 k) ≡ eqb k 0
+  nil_is : (k : ℕ) → is_nil (results_of w 41824 k) ≡ eqb k 0
   unfolding readings_from
   nil_is zero = refl
   nil_is (suc k) = sym (ne_eqb (suc k) 0 (λ z. omega arith))

@@ -8,7 +8,7 @@ use lib.ListN.{length, drop, length-drop}
 use lib.Seq.{length-take-le}
 use borrow.Rule.Slice.PartMut.{mid_of, put_mid, same_len_mid}
 use borrow.Author.Tests.{lt-ltb, le-ltb, le-leb, lt-leb}
-use Rattle.meaning.specs.Basics.{isNil}
+use Rattle.meaning.specs.Basics.{is_nil}
 use Rattle.meaning.specs.Calls.{wrong_class, takes_right, takes_call, can_end_call, can_recover_call}
 use Rattle.meaning.specs.Questions.{takes, can_end, can_recover}
 use Rattle.meaning.specs.TableFile.{table_of}
@@ -41,7 +41,7 @@ module _ (table : List ℕ) (v : View) (state marks : List ℕ) (class n : ℕ) 
   takes_consumed z = rw (← e, z)
 
   module _ (some : n ≡ 0 → ⊥) where
-    not_nil : isNil (readings_of state) ≡ false
+    not_nil : is_nil (readings_of state) ≡ false
     not_nil = some_readings state (count_of state) (λ z. some (e ∙ z))
 
     pub takes_low : class < 3 → Refused WrongArgument ≡ takes_right (table_of table) class (readings_of state)

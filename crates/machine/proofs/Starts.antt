@@ -15,7 +15,7 @@ use Rattle.meaning.specs.declared.View.{View}
 use Rattle.numbers.specs.Zeros.{zeros}
 use Rattle.state.specs.Areas.{Started}
 use Rattle.state.proofs.Valid.{state_is}
-use Rattle.table.specs.Answers.{check_of, actionAnswer}
+use Rattle.table.specs.Answers.{check_of, action_answer}
 use Rattle.table.specs.declared.Action.{Action}
 use Rattle.table.specs.declared.Checked.{Checked}
 use Rattle.table.specs.declared.Checked.TheVariants as table-check
@@ -27,8 +27,8 @@ use Rattle.promises.specs.Calls.{StartPromise}
 use Rattle.machine.specs.Lines.{StartLine}
 use Rattle.checks.proofs.Checks.{view_states}
 
-start_target : (table : List ℕ) (a : Action) → a ≡ actionAnswer (action_of (table_of table) 0 2) → a.target ≡ state_no (start_state (table_of table))
-unfolding actionAnswer start_state
+start_target : (table : List ℕ) (a : Action) → a ≡ action_answer (action_of (table_of table) 0 2) → a.target ≡ state_no (start_state (table_of table))
+unfolding action_answer start_state
 start_target table a e = ap (λ (x : Action). x.target) e
 
 module _ (table state : List ℕ) (r : Checked) (says : r ≡ check_of table) where
@@ -38,7 +38,7 @@ module _ (table state : List ℕ) (r : Checked) (says : r ≡ check_of table) wh
       let no = wrong_of table r says e in
       record { answers = rw no; readings = rw no; refused = λ _. refl; started = λ z. absurd (omega arith) }
 
-  pub start_right : (v : View) (state' : List ℕ) (a : Action) → r ≡ table-check.Right v → a ≡ actionAnswer (action_of (table_of table) 0 2) → Started a.target state state' → StartLine table state Done state'
+  pub start_right : (v : View) (state' : List ℕ) (a : Action) → r ≡ table-check.Right v → a ≡ action_answer (action_of (table_of table) 0 2) → Started a.target state state' → StartLine table state Done state'
   unfolding start_call
   start_right v state' a e f s =
       let B = belongs_of table v r says e in

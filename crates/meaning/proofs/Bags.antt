@@ -4,7 +4,7 @@ use mathlib.Core.Path.{◌≡◌, refl, sym, ap, ap₂, ◌∙◌, subst}
 use mathlib.Core.List.Permᴰ
 use mathlib.Core.List.{List, [], ◌∷◌, ◌++◌, Permᴰ}
 use native.Mathlib.Omega.{arith}
-use Rattle.meaning.specs.Basics.{isNil, flat, AllOf}
+use Rattle.meaning.specs.Basics.{is_nil, flat, AllOf}
 use Rattle.meaning.proofs.Settled.{total}
 
 module _ {A : Type 0} where
@@ -21,7 +21,7 @@ module _ {A : Type 0} where
   swap_append [] b c = Permᴰ.refl (b ++ c)
   swap_append (x ∷ a) b c = Permᴰ.trans (Permᴰ.cons refl (swap_append a b c)) (Permᴰ.symm (Permᴰ.middle x b (a ++ c)))
 
-  pub nil_perm : {l m : List A} → Permᴰ l m → isNil l ≡ isNil m
+  pub nil_perm : {l m : List A} → Permᴰ l m → is_nil l ≡ is_nil m
   nil_perm Permᴰ.nil = refl
   nil_perm (Permᴰ.cons e p) = refl
   nil_perm (Permᴰ.swap e f) = refl

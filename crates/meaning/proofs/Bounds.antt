@@ -6,7 +6,7 @@ use mathlib.Core.Bool.{Bool, true, false, not}
 use lib.ListN.{length, length-append}
 use lib.Dec.{ltb, T, ltb→lt}
 use native.Mathlib.Omega.{arith}
-use Rattle.meaning.specs.Basics.{either, isNil, AllOf}
+use Rattle.meaning.specs.Basics.{either, is_nil, AllOf}
 use Rattle.std.specs.Prelude.{if◌then◌else◌}
 use Rattle.meaning.specs.Limits.{max_readings}
 use Rattle.meaning.specs.TableFile.{Table}
@@ -274,7 +274,7 @@ module _ (rs : List Reading) (n : ℕ) (few : length rs ≤ 16) (stand : AllOf S
       let e3 = length-reverse rs [] in
       let e4 = length-reverse d.results [] in
       let d₀ : Applied = record { results = []; errors = d.errors; next = d.next } in
-      if_bounded (isNil d.results) (none_recovered rs d w) (term_taken rs n (take_term t x (reverse d.results) d₀ w 0))
+      if_bounded (is_nil d.results) (none_recovered rs d w) (term_taken rs n (take_term t x (reverse d.results) d₀ w 0))
       (record { errors = omega arith; readings = omega arith; heights = tt; grows = omega arith; births = omega arith; walked = omega arith })
       (taken_bounded d.next (length d.errors) w (0 + length (reverse d.results)) (omega arith) (omega arith) (omega arith) (omega arith) (omega arith) (take_term t x (reverse d.results) d₀ w 0)
       (take_within t x (reverse d.results) d.next (length d.errors) w 0 d₀ w 0 (all_reverse Standing d.results [] a.out.standing tt)
@@ -290,7 +290,7 @@ module _ (rs : List Reading) (n : ℕ) (few : length rs ≤ 16) (stand : AllOf S
   settle_bounded : (t : Table) (x : Term) (p : Planned) → TakenOf t x 0 (length (reverse rs)) p → Bounded n (finish t x rs n (first_of t x n p))
   unfolding settle
   settle_bounded t x (no_plan k) a = refusal_bounded k
-  settle_bounded t x (plans ps left w c) a = at (isNil o.results) (either (not t.recovers) (not (isNil ps)))
+  settle_bounded t x (plans ps left w c) a = at (is_nil o.results) (either (not t.recovers) (not (is_nil ps)))
     where
       o : Applied
       o = apply_all t x ps n

@@ -5,7 +5,7 @@ use mathlib.Core.List.Permᴰ
 use mathlib.Core.List.{List, [], ◌∷◌, ◌++◌, map, reverse}
 use mathlib.Core.Bool.{Bool, true, false, not}
 use native.Mathlib.Omega.{arith}
-use Rattle.meaning.specs.Basics.{either, isNil, flat, AllOf}
+use Rattle.meaning.specs.Basics.{either, is_nil, flat, AllOf}
 use Rattle.std.specs.Prelude.{if◌then◌else◌}
 use Rattle.meaning.specs.TableFile.{Table}
 use Rattle.meaning.specs.Readings.{Reading, states, plain}
@@ -53,10 +53,10 @@ order t x rs rs' n n' same u u' =
     ps = Permᴰ.trans (Permᴰ.map plain (Permᴰ.reverse rs)) (Permᴰ.trans same (Permᴰ.symm (Permᴰ.map plain (Permᴰ.reverse rs'))))
 
     b : Bool
-    b = isNil (flat (got_of t x) (map plain (reverse rs)))
+    b = is_nil (flat (got_of t x) (map plain (reverse rs)))
 
     b' : Bool
-    b' = isNil (flat (got_of t x) (map plain (reverse rs')))
+    b' = is_nil (flat (got_of t x) (map plain (reverse rs')))
 
     nils : b ≡ b'
     nils = nil_perm (flat_perm (got_of t x) ps)
@@ -104,7 +104,7 @@ left_by_chains : (t : Table) (x : Term) (rs : List Reading) (next : ℕ)
     → starts_recovery t x rs next ≡ false → (feed t x rs next).answer ≡ 0
     → map plain (feed t x rs next).readings ≡ flat (succeeded t x) (reverse (map plain rs))
 left_by_chains t x rs n calm zero_is =
-    a.readings_are ∙ taken (isNil (flat (got_of t x) (map plain (reverse rs)))) (sym a.answer_is ∙ zero_is)
+    a.readings_are ∙ taken (is_nil (flat (got_of t x) (map plain (reverse rs)))) (sym a.answer_is ∙ zero_is)
     ∙ ap (flat (got_of t x)) (map_reverse plain rs []) ∙ got_succeeded t x (reverse (map plain rs))
   where
     u : Undisturbed t x rs n

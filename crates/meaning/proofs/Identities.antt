@@ -6,7 +6,7 @@ use mathlib.Core.List.{List, [], ◌∷◌, ◌++◌, map, reverse}
 use mathlib.Core.Bool.{Bool, true, false, not}
 use lib.Dec.{ltb, eqb, T, eqb→eq, eqb_refl}
 use native.Mathlib.Omega.{arith}
-use Rattle.meaning.specs.Basics.{either, Maybe, nothing, just, isNil, AllOf}
+use Rattle.meaning.specs.Basics.{either, Maybe, nothing, just, is_nil, AllOf}
 use Rattle.std.specs.Prelude.{if◌then◌else◌}
 use Rattle.meaning.specs.TableFile.{Table, rule_of}
 use Rattle.meaning.specs.Readings.{Entry, Reading, states, holds, held_by}
@@ -281,7 +281,7 @@ module _ (ρ : ℕ → ℕ) (n₀ : ℕ) (P : ℕ → Type 0) (apart : (a b : �
   after_recovery_ren x ls n (stopped k) h = refl
   after_recovery_ren x ls n (came d w c) h =
       ap (λ (b : Bool). if b then none_recovered (map (rr ρ) ls) (ro ρ d) w else go') (nil_map (rr ρ) d.results)
-      ∙ if_fed (isNil d.results) (none_recovered ls d w) go (none_recovered (map (rr ρ) ls) (ro ρ d) w) go'
+      ∙ if_fed (is_nil d.results) (none_recovered ls d w) go (none_recovered (map (rr ρ) ls) (ro ρ d) w) go'
       (ap {B = Fed} (λ l. record { answer = 12; readings = []; errors = d.errors ++ l; walked = w; next = ρ d.next }) (unplanned_reversed ls))
       (ap (λ (l : List Reading). term_taken (map (rr ρ) ls) (ρ n) (take_term t x l (ro ρ d₀) w 0)) (sym (map_reverse (rr ρ) d.results []))
       ∙ ap (term_taken (map (rr ρ) ls) (ρ n)) (take_term_ren x (reverse d.results) d₀ w 0 h.grows)
@@ -306,7 +306,7 @@ module _ (ρ : ℕ → ℕ) (n₀ : ℕ) (P : ℕ → Type 0) (apart : (a b : �
   settle_ren ps left w o =
       ap₂ {C = First} (λ (b d : Bool). if not b then settles some' else if either (not t.recovers) (not d) then settles none' else must_recover w)
       (nil_map (rr ρ) o.results) (nil_map (λ (p : Reading × Walk). (rr ρ p.0, p.1)) ps)
-      ∙ at (isNil o.results) (either (not t.recovers) (not (isNil ps)))
+      ∙ at (is_nil o.results) (either (not t.recovers) (not (is_nil ps)))
     where
       some' : Fed
       some' = some_took (map (rr ρ) left) w (ro ρ o)

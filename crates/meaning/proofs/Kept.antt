@@ -6,7 +6,7 @@ use mathlib.Core.List.{List, [], ◌∷◌, ◌++◌, reverse}
 use lib.Dec.{ltb}
 use lib.ListN.{drop}
 use native.Mathlib.Omega.{arith}
-use Rattle.meaning.specs.Basics.{either, Maybe, nothing, just, isNil, AllOf}
+use Rattle.meaning.specs.Basics.{either, Maybe, nothing, just, is_nil, AllOf}
 use Rattle.std.specs.Prelude.{if◌then◌else◌}
 use Rattle.meaning.specs.TableFile.{Table, rule_of}
 use Rattle.meaning.specs.Readings.{Entry, Reading, states}
@@ -196,14 +196,14 @@ module _ (P : Entry → Type 0) (R : ℕ → Type 0) (n₀ : ℕ) (new : Passes 
       recovered_left (stopped k) h = o
       recovered_left (came d w c) h =
           let d₀ : Applied = record { results = []; errors = d.errors; next = d.next } in
-          if_left (isNil d.results) (none_recovered rs d w) (term_taken rs n₀ (take_term t x (reverse d.results) d₀ w 0)) tt
+          if_left (is_nil d.results) (none_recovered rs d w) (term_taken rs n₀ (take_term t x (reverse d.results) d₀ w 0)) tt
           (taken_left (take_term t x (reverse d.results) d₀ w 0)
           (take_made x (reverse d.results) d₀ w 0 (all_reverse (OfEntries P) d.results [] h.of tt) (record { grows = h.grows; of = tt })))
 
       first_left : (p : Planned) → PlannedOf x p → Left (finish t x rs n₀ (first_of t x n₀ p))
       unfolding settle recover
       first_left (no_plan k) h = o
-      first_left (plans ps left w c) h = at (isNil a.results) (either (not t.recovers) (not (isNil ps)))
+      first_left (plans ps left w c) h = at (is_nil a.results) (either (not t.recovers) (not (is_nil ps)))
         where
           a : Applied
           a = apply_all t x ps n₀

@@ -4,7 +4,7 @@ use mathlib.Core.Path.{◌≡◌, refl, sym, ap, ap₂, ◌∙◌, subst}
 use mathlib.Core.List.{List, [], ◌∷◌, ◌++◌, map, reverse}
 use mathlib.Core.Bool.{Bool, true, false, not}
 use native.Mathlib.Omega.{arith}
-use Rattle.meaning.specs.Basics.{either, isNil, flat, AllOf}
+use Rattle.meaning.specs.Basics.{either, is_nil, flat, AllOf}
 use Rattle.std.specs.Prelude.{if◌then◌else◌}
 use Rattle.meaning.specs.Answers.{number}
 use Rattle.meaning.specs.TableFile.{Table}
@@ -81,7 +81,7 @@ module _ (t : Table) (x : Term) where
     pub chains : c' ≡ c + total (chains_of t x) ps
     pub fits : c ≤ 16 → c' ≤ 16
     pub free : AllOf (Free t x) ps
-    pub taken : isNil tk ≡ isNil (flat (planned_of t x) ps)
+    pub taken : is_nil tk ≡ is_nil (flat (planned_of t x) ps)
 
   abbrev ToldOf : ℕ → List Reading → Planned → Type 0
   ToldOf c ps (no_plan k) = Unit {0}
@@ -105,7 +105,7 @@ module _ (t : Table) (x : Term) where
         chains = omega arith;
         fits = λ g. h.fits (room g);
         free = (fr, h.free);
-        taken = ap (λ (b : Bool). isNil ((if b then plain r ∷ [] else []) ++ flat (planned_of t x) ps)) (sym e ∙ ap ends is);
+        taken = ap (λ (b : Bool). is_nil ((if b then plain r ∷ [] else []) ++ flat (planned_of t x) ps)) (sym e ∙ ap ends is);
       }
   one_told r tree n c c₁ is ns cs room fr false e ps tk lf w c' h =
       let s : size tree ≡ size (tree_of t x (plain r)) = ap size is in
@@ -121,7 +121,7 @@ module _ (t : Table) (x : Term) where
         chains = omega arith;
         fits = λ g. h.fits (room g);
         free = (fr, h.free);
-        taken = h.taken ∙ ap (λ (b : Bool). isNil ((if b then plain r ∷ [] else []) ++ flat (planned_of t x) ps)) (sym dead);
+        taken = h.taken ∙ ap (λ (b : Bool). is_nil ((if b then plain r ∷ [] else []) ++ flat (planned_of t x) ps)) (sym dead);
       }
 
   add_told : (r : Reading) (tree : Walk) (n c c₁ : ℕ) → tree ≡ tree_of t x (plain r) → n ≡ size tree → c₁ ≡ c + chains tree → (c ≤ 16 → c₁ ≤ 16) → Free t x (plain r)
@@ -149,13 +149,13 @@ module _ (t : Table) (x : Term) where
 
   -- a feed's outcome, told by the plain readings in the order in which they are planned
   pub record As (ps : List Reading) (f : Fed) : Type 0 where
-    pub answer_is : f.answer ≡ (if isNil (flat (got_of t x) ps) then 12 else 0)
-    pub readings_are : map plain f.readings ≡ (if isNil (flat (got_of t x) ps) then flat (left_of t x) ps else flat (got_of t x) ps)
-    pub errors_are : f.errors ≡ flat (errs_of t x) ps ++ map unplanned (if isNil (flat (got_of t x) ps) then flat (left_of t x) ps else reverse (flat (left_of t x) ps))
+    pub answer_is : f.answer ≡ (if is_nil (flat (got_of t x) ps) then 12 else 0)
+    pub readings_are : map plain f.readings ≡ (if is_nil (flat (got_of t x) ps) then flat (left_of t x) ps else flat (got_of t x) ps)
+    pub errors_are : f.errors ≡ flat (errs_of t x) ps ++ map unplanned (if is_nil (flat (got_of t x) ps) then flat (left_of t x) ps else reverse (flat (left_of t x) ps))
     pub walked_is : f.walked ≡ total (size_of t x) ps
 
   abbrev pub recovering : List Reading → Bool
-  recovering ps = (if isNil (flat (got_of t x) ps) then not (either (not t.recovers) (not (isNil (flat (planned_of t x) ps)))) else false)
+  recovering ps = (if is_nil (flat (got_of t x) ps) then not (either (not t.recovers) (not (is_nil (flat (planned_of t x) ps)))) else false)
 
   -- nothing of the planning is refused, whatever the order
   pub record Quiet (ps : List Reading) : Type 0 where
@@ -168,9 +168,9 @@ module _ (t : Table) (x : Term) where
   AsOf ps (must_recover w) = recovering ps ≡ true
 
   recover_flag : (ps : List Reading) (tk : List (Reading × Walk)) (lf : List Reading) (w c' n : ℕ) → Told 0 ps tk lf w c'
-      → (b : Bool) → isNil (apply_all t x tk n).results ≡ b → (d : Bool) → either (not t.recovers) (not (isNil tk)) ≡ d → recovering ps ≡ (if b then not d else false)
+      → (b : Bool) → is_nil (apply_all t x tk n).results ≡ b → (d : Bool) → either (not t.recovers) (not (is_nil tk)) ≡ d → recovering ps ≡ (if b then not d else false)
   recover_flag ps tk lf w c' n h b e d f =
-      ap₂ {C = Bool} (λ (u v : Bool). if u then not v else false) (sym (ap isNil (h.results n)) ∙ nil_map plain (apply_all t x tk n).results ∙ e)
+      ap₂ {C = Bool} (λ (u v : Bool). if u then not v else false) (sym (ap is_nil (h.results n)) ∙ nil_map plain (apply_all t x tk n).results ∙ e)
       (ap (λ (u : Bool). either (not t.recovers) (not u)) (sym h.taken) ∙ f)
 
   quiet : (ps : List Reading) (tk : List (Reading × Walk)) (lf : List Reading) (w c' : ℕ) → Told 0 ps tk lf w c' → Quiet ps
@@ -180,11 +180,11 @@ module _ (t : Table) (x : Term) where
       record { free = h.free; room = omega arith }
 
   settle_told : (ps : List Reading) (tk : List (Reading × Walk)) (lf : List Reading) (w c' n : ℕ) → Told 0 ps tk lf w c'
-      → (b : Bool) → isNil (apply_all t x tk n).results ≡ b → (d : Bool) → either (not t.recovers) (not (isNil tk)) ≡ d
+      → (b : Bool) → is_nil (apply_all t x tk n).results ≡ b → (d : Bool) → either (not t.recovers) (not (is_nil tk)) ≡ d
       → AsOf ps (if not b then settles (some_took lf w (apply_all t x tk n)) else if d then settles (none_took lf w (apply_all t x tk n)) else must_recover w)
   settle_told ps tk lf w c' n h true e false f = recover_flag ps tk lf w c' n h true e false f
   settle_told ps tk lf w c' n h true e true f =
-      let nil : true ≡ isNil (flat (got_of t x) ps) = sym e ∙ sym (nil_map plain (apply_all t x tk n).results) ∙ ap isNil (h.results n) in (
+      let nil : true ≡ is_nil (flat (got_of t x) ps) = sym e ∙ sym (nil_map plain (apply_all t x tk n).results) ∙ ap is_nil (h.results n) in (
         record {
           answer_is = ap (λ (b : Bool). if b then 12 else 0) nil;
           readings_are = h.left ∙ ap (λ (b : Bool). if b then flat (left_of t x) ps else flat (got_of t x) ps) nil;
@@ -196,7 +196,7 @@ module _ (t : Table) (x : Term) where
         quiet ps tk lf w c' h,
       )
   settle_told ps tk lf w c' n h false e d f =
-      let nil : false ≡ isNil (flat (got_of t x) ps) = sym e ∙ sym (nil_map plain (apply_all t x tk n).results) ∙ ap isNil (h.results n) in (
+      let nil : false ≡ is_nil (flat (got_of t x) ps) = sym e ∙ sym (nil_map plain (apply_all t x tk n).results) ∙ ap is_nil (h.results n) in (
         record {
           answer_is = ap (λ (b : Bool). if b then 12 else 0) nil;
           readings_are = h.results n ∙ ap (λ (b : Bool). if b then flat (left_of t x) ps else flat (got_of t x) ps) nil;
@@ -211,7 +211,7 @@ module _ (t : Table) (x : Term) where
   planned_told : (ps : List Reading) (n : ℕ) (p : Planned) → ToldOf 0 ps p → AsOf ps (first_of t x n p)
   unfolding settle
   planned_told ps n (no_plan k) h = h
-  planned_told ps n (plans tk lf w c) h = settle_told ps tk lf w c n h (isNil (apply_all t x tk n).results) refl (either (not t.recovers) (not (isNil tk))) refl
+  planned_told ps n (plans tk lf w c) h = settle_told ps tk lf w c n h (is_nil (apply_all t x tk n).results) refl (either (not t.recovers) (not (is_nil tk))) refl
 
   pub first_told : (rs : List Reading) (n : ℕ) → AsOf (map plain (reverse rs)) (first t x rs n)
   unfolding first
@@ -260,7 +260,7 @@ module _ (t : Table) (x : Term) where
   first_on : (n : ℕ) (p : Planned) → GoesOn p → NotStop (first_of t x n p)
   unfolding settle
   first_on n (no_plan k) h = h
-  first_on n (plans tk lf w c) h = at (isNil (apply_all t x tk n).results) (either (not t.recovers) (not (isNil tk)))
+  first_on n (plans tk lf w c) h = at (is_nil (apply_all t x tk n).results) (either (not t.recovers) (not (is_nil tk)))
     where
       at : (b d : Bool) → NotStop (if not b then settles (some_took lf w (apply_all t x tk n)) else if d then settles (none_took lf w (apply_all t x tk n)) else must_recover w)
       at true true = tt
@@ -274,7 +274,7 @@ module _ (t : Table) (x : Term) where
   finish_on : (ps rs : List Reading) (n : ℕ) (f : First) → AsOf ps f → NotStop f → recovering ps ≡ false
       → (is_recovery f ≡ false) × ((1 ≤ (finish t x rs n f).answer) × ((finish t x rs n f).answer ≤ 11) → ⊥)
   finish_on ps rs n (refuses k) a s e = absurd s
-  finish_on ps rs n (settles f) a s e = (refl, zero_or_twelve (isNil (flat (got_of t x) ps)) f.answer a.0.answer_is)
+  finish_on ps rs n (settles f) a s e = (refl, zero_or_twelve (is_nil (flat (got_of t x) ps)) f.answer a.0.answer_is)
   finish_on ps rs n (must_recover w) a s e = absurd (subst IsTrue (sym a ∙ e) tt)
 
   pub undisturbed : (rs : List Reading) (n : ℕ) → Quiet (map plain (reverse rs)) → recovering (map plain (reverse rs)) ≡ false → Undisturbed t x rs n

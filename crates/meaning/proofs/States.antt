@@ -5,7 +5,7 @@ use mathlib.Core.Bool.{Bool, true, false, not}
 use mathlib.Core.List.{List, [], ◌∷◌, map}
 use lib.Dec.{ltb, leb, T, ltb→lt}
 use lib.ListN.{length}
-use Rattle.meaning.specs.Basics.{both, either, Maybe, nothing, just, isNil, every, AllOf, find}
+use Rattle.meaning.specs.Basics.{both, either, Maybe, nothing, just, is_nil, every, AllOf, find}
 use Rattle.std.specs.Prelude.{if◌then◌else◌}
 use Rattle.meaning.specs.TableFile.{ActionRecord, GotoRecord, view_of, places, rules_from, table_of, actions_of, gotos_of, is_pair, no_record, action_of, goto_of, start_class, target, start_state}
 use Rattle.meaning.specs.TableRight.{frame_right, rule_right, shifts, shift_right, rules_below, action_right, goto_right, Format, action_format, goto_format, key_of, ascends, fits, records_right, field_right, content_right, table_ok}
@@ -53,7 +53,7 @@ action_below c a e to f = at a.shift (both_parts (shift_right c a.shift) (rules_
     leads = both (shift_right c a.shift) (rules_below c a.rules)
 
     full : Bool
-    full = both (leb (length a.rules) 4) (either (shifts a.shift) (not (isNil a.rules)))
+    full = both (leb (length a.rules) 4) (either (shifts a.shift) (not (is_nil a.rules)))
 
     at : (sh : Maybe ℕ) → shift_right c sh ≡ true → sh ≡ just to → to < c.states
     at nothing g k = absurd (subst is_just (sym k) tt)

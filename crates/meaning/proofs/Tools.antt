@@ -4,7 +4,7 @@ use mathlib.Core.Path.{◌≡◌, refl, ap}
 use mathlib.Core.List.{List, [], ◌∷◌, ◌++◌, map, reverse_aux}
 use lib.ListN.{length}
 use native.Mathlib.Omega.{arith}
-use Rattle.meaning.specs.Basics.{isNil, AllOf}
+use Rattle.meaning.specs.Basics.{is_nil, AllOf}
 
 module _ {A B : Type 0} (f : A → B) where
   pub map_append : (l m : List A) → map f (l ++ m) ≡ map f l ++ map f m
@@ -15,7 +15,7 @@ module _ {A B : Type 0} (f : A → B) where
   map_reverse [] acc = refl
   map_reverse (a ∷ l) acc = map_reverse l (a ∷ acc)
 
-  pub nil_map : (l : List A) → isNil (map f l) ≡ isNil l
+  pub nil_map : (l : List A) → is_nil (map f l) ≡ is_nil l
   nil_map [] = refl
   nil_map (a ∷ l) = refl
 

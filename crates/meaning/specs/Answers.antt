@@ -44,26 +44,26 @@ number WalkTooLong = 10
 number TooManyReadings = 11
 
 -- No reading took the term.
-abbrev pub notTaken : ℕ
-notTaken = 12
+abbrev pub not_taken : ℕ
+not_taken = 12
 
-abbrev pub startNumber : StartAnswer → ℕ
-startNumber start.Done = done
-startNumber (start.Refused k) = number k
+abbrev pub start_number : StartAnswer → ℕ
+start_number start.Done = done
+start_number (start.Refused k) = number k
 
 -- 1 to 11 report zero for both counts
-abbrev pub feedNumbers : FeedAnswer → FeedNumbers
-feedNumbers (fed.Done errors walked) = record { answer = done; errors = errors; walked = walked }
-feedNumbers (fed.NotTaken errors walked) = record { answer = notTaken; errors = errors; walked = walked }
-feedNumbers (fed.Refused k) = record { answer = number k; errors = 0; walked = 0 }
+abbrev pub feed_numbers : FeedAnswer → FeedNumbers
+feed_numbers (fed.Done errors walked) = record { answer = done; errors = errors; walked = walked }
+feed_numbers (fed.NotTaken errors walked) = record { answer = not_taken; errors = errors; walked = walked }
+feed_numbers (fed.Refused k) = record { answer = number k; errors = 0; walked = 0 }
 
 -- a refusal comes with no
-abbrev pub questionNumbers : QuestionAnswer → QuestionNumbers
-questionNumbers asked.Yes = record { answer = done; yes = true }
-questionNumbers asked.No = record { answer = done; yes = false }
-questionNumbers (asked.Refused k) = record { answer = number k; yes = false }
+abbrev pub question_numbers : QuestionAnswer → QuestionNumbers
+question_numbers asked.Yes = record { answer = done; yes = true }
+question_numbers asked.No = record { answer = done; yes = false }
+question_numbers (asked.Refused k) = record { answer = number k; yes = false }
 
 -- a refusal gives height and mark 0
-abbrev pub stackNumbers : StackAnswer → StackNumbers
-stackNumbers (stack.Read height mark) = record { answer = done; height = height; mark = mark }
-stackNumbers (stack.Refused k) = record { answer = number k; height = 0; mark = 0 }
+abbrev pub stack_numbers : StackAnswer → StackNumbers
+stack_numbers (stack.Read height mark) = record { answer = done; height = height; mark = mark }
+stack_numbers (stack.Refused k) = record { answer = number k; height = 0; mark = 0 }

@@ -22,9 +22,9 @@ abbrev pub listed : {A B : Type 0} → Maybe A → (A → List B) → List B
 listed nothing f = []
 listed (just a) f = f a
 
-abbrev pub isNil {ℓ} : {A : Type ℓ} → List A → Bool
-isNil [] = true
-isNil (a ∷ more) = false
+abbrev pub is_nil {ℓ} : {A : Type ℓ} → List A → Bool
+is_nil [] = true
+is_nil (a ∷ more) = false
 
 abbrev pub every : {A : Type 0} → (A → Bool) → List A → Bool
 every p [] = true

@@ -1,7 +1,7 @@
 -- The calls, on all inputs: checks 1, 2, 3, 4, 5 in this order, then 6 to 11 as planning meets them.
 -- Two things are the buffers' business and come in as arguments: whether all lengths are right, and which readings a state buffer holds, `nothing` if it breaks the layout rules or names a state that the table lacks.
 use Rattle.std.specs.Prelude.{ℕ, Bool, not, List, [], ◌∷◌, ◌++◌, map, leb, ltb, length, get_or, drop}
-use Rattle.meaning.specs.Basics.{either, Maybe, nothing, just, isNil}
+use Rattle.meaning.specs.Basics.{either, Maybe, nothing, just, is_nil}
 use Rattle.std.specs.Prelude.{if◌then◌else◌}
 use Rattle.meaning.specs.Answers.{done, number}
 use Rattle.meaning.specs.TableFile.{Table, table_of, first_term}
@@ -74,7 +74,7 @@ feed_ended errors f = record { says = record { answer = f.answer; errors = lengt
 -- On a right table and a right state: consumed is 4, before 5 is looked at.
 unfoldable pub feed_right : Table → Term → List Reading → List ErrorRecord → (next : ℕ) → FeedCall
 feed_right t x rs errors next =
-    if isNil rs then feed_refused (just rs) errors Consumed
+    if is_nil rs then feed_refused (just rs) errors Consumed
     else if wrong_term t.counts.classes x then feed_refused (just rs) errors WrongArgument
     else feed_ended errors (feed t x rs next)
 
@@ -85,7 +85,7 @@ feed_call lengths table state x errors next = checked lengths table state (feed_
 
 unfoldable pub takes_right : Table → (class : ℕ) → List Reading → QuestionAnswer
 takes_right t class rs =
-    if isNil rs then No
+    if is_nil rs then No
     else if wrong_class t.counts.classes class then Refused WrongArgument
     else takes t class rs
 
@@ -115,7 +115,7 @@ stack_read entries r = record { says = record { answer = done; height = length r
 
 unfoldable pub stack_right : List Reading → (i : ℕ) → List SeenEntry → StackCall
 stack_right rs i entries =
-    if isNil rs then stack_refused entries Consumed
+    if is_nil rs then stack_refused entries Consumed
     else if leb (length rs) i then stack_refused entries WrongArgument
     else stack_read entries (get_or rs i no_reading)
 

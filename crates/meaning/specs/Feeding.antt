@@ -1,9 +1,9 @@
 -- Feeding a term.
 use Rattle.std.specs.Prelude.{ℕ, ◌+◌, Bool, true, false, not, List, [], ◌∷◌, ◌++◌, map, reverse}
-use Rattle.meaning.specs.Basics.{either, isNil}
+use Rattle.meaning.specs.Basics.{either, is_nil}
 use Rattle.std.specs.Prelude.{if◌then◌else◌}
 use Rattle.meaning.specs.Limits.{max_readings}
-use Rattle.meaning.specs.Answers.{done, notTaken}
+use Rattle.meaning.specs.Answers.{done, not_taken}
 use Rattle.meaning.specs.TableFile.{Table}
 use Rattle.meaning.specs.Readings.{Reading, states}
 use Rattle.meaning.specs.Walk.{Walk, Walked, refused, walked, plan, ends}
@@ -44,7 +44,7 @@ some_took left w a = record { answer = done; readings = a.results; errors = a.er
 
 -- None did: 12. The unplanned readings stay, in reversed order. Errors: refused actions, then unplanned readings last to first.
 abbrev pub none_took : (left : List Reading) → (w : ℕ) → Applied → Fed
-none_took left w a = record { answer = notTaken; readings = left; errors = a.errors ++ map unplanned left; walked = w; next = a.next }
+none_took left w a = record { answer = not_taken; readings = left; errors = a.errors ++ map unplanned left; walked = w; next = a.next }
 
 -- What the first planning comes to: a refusal, an end with 0 or 12, or recovery, with the reductions walked so far.
 pub data First : Type 0 where
@@ -55,8 +55,8 @@ pub data First : Type 0 where
 -- 12 if none succeeded and either the error class is unused or some reading was planned; otherwise recovery
 unfoldable pub settle : Table → (planned : List (Reading × Walk)) → (left : List Reading) → (w : ℕ) → Applied → First
 settle t ps left w a =
-    if not (isNil a.results) then settles (some_took left w a)
-    else if either (not t.recovers) (not (isNil ps)) then settles (none_took left w a)
+    if not (is_nil a.results) then settles (some_took left w a)
+    else if either (not t.recovers) (not (is_nil ps)) then settles (none_took left w a)
     else must_recover w
 
 abbrev pub first_of : Table → Term → (next : ℕ) → Planned → First

@@ -1,9 +1,9 @@
 -- Recovery: its two stages. It starts where no reading could be planned and the error class is used (Feeding).
 use Rattle.std.specs.Prelude.{ℕ, ◌+◌, Bool, List, [], ◌∷◌, ◌++◌, map, reverse, ltb}
-use Rattle.meaning.specs.Basics.{isNil}
+use Rattle.meaning.specs.Basics.{is_nil}
 use Rattle.std.specs.Prelude.{if◌then◌else◌}
 use Rattle.meaning.specs.Limits.{max_readings}
-use Rattle.meaning.specs.Answers.{done, notTaken}
+use Rattle.meaning.specs.Answers.{done, not_taken}
 use Rattle.meaning.specs.TableFile.{Table, error_class}
 use Rattle.meaning.specs.Readings.{Entry, Reading, top, states, held_by}
 use Rattle.meaning.specs.Walk.{Walk, Walked, refused, walked, plan, ends}
@@ -77,17 +77,17 @@ take_term t x (r ∷ rs) d w c =
 -- None left: 12, consumed, with refused actions only. Else 0, with refused actions only.
 abbrev pub term_taken : List Reading → (next : ℕ) → Stage → Fed
 term_taken rs next (stopped k) = refusal k rs next
-term_taken rs next (came a w c) = record { answer = if isNil a.results then notTaken else done; readings = a.results; errors = a.errors; walked = w; next = a.next }
+term_taken rs next (came a w c) = record { answer = if is_nil a.results then not_taken else done; readings = a.results; errors = a.errors; walked = w; next = a.next }
 
 -- No reading results: 12, consumed; the errors, then all readings as unplanned ones, last to first.
 abbrev pub none_recovered : List Reading → Applied → (w : ℕ) → Fed
-none_recovered rs d w = record { answer = notTaken; readings = []; errors = d.errors ++ map unplanned (reverse rs); walked = w; next = d.next }
+none_recovered rs d w = record { answer = not_taken; readings = []; errors = d.errors ++ map unplanned (reverse rs); walked = w; next = d.next }
 
 -- Else the recovered readings, last to first, take the term.
 abbrev pub after_recovery : Table → Term → List Reading → (next : ℕ) → Stage → Fed
 after_recovery t x rs next (stopped k) = refusal k rs next
 after_recovery t x rs next (came d w c) =
-    if isNil d.results then none_recovered rs d w
+    if is_nil d.results then none_recovered rs d w
     else term_taken rs next (take_term t x (reverse d.results) (record { results = []; errors = d.errors; next = d.next }) w 0)
 
 unfoldable pub recover : Table → Term → List Reading → (next w : ℕ) → Fed

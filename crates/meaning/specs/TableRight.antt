@@ -1,7 +1,7 @@
 -- When a table file is right: `table_ok` has every rule of the section. Wrong is answer 2.
 use Rattle.std.specs.Prelude.{ℕ, ◌+◌, ◌-◌, ◌*◌, ◌<◌, Bool, true, false, not, List, [], ◌∷◌, map, ltb, leb, eqb, length}
 use Rattle.std.proofs.Common.{arith}
-use Rattle.meaning.specs.Basics.{both, either, Maybe, nothing, just, isNil, every}
+use Rattle.meaning.specs.Basics.{both, either, Maybe, nothing, just, is_nil, every}
 use Rattle.std.specs.Prelude.{if◌then◌else◌}
 use Rattle.meaning.specs.Bytes.{byte_at, u16_at}
 use Rattle.meaning.specs.Limits.{max_states, max_classes, max_nonterminals, max_rules, max_bytes}
@@ -71,7 +71,7 @@ unfoldable pub action_right : Counts → ActionRecord → Bool
 action_right c a =
     both (both (ltb a.state c.states) (ltb a.class c.classes))
     (both (both (shift_right c a.shift) (rules_below c a.rules))
-    (both (leb (length a.rules) 4) (either (shifts a.shift) (not (isNil a.rules)))))
+    (both (leb (length a.rules) 4) (either (shifts a.shift) (not (is_nil a.rules)))))
 
 -- A goto: every number below its count.
 unfoldable pub goto_right : Counts → GotoRecord → Bool

@@ -2,7 +2,7 @@
 #![tactic(auto)]
 
 ghost use Rattle.std.specs.Prelude.{◌≡◌};
-ghost use Rattle.meaning.specs.Answers.{number, startNumber, feedNumbers, questionNumbers, stackNumbers};
+ghost use Rattle.meaning.specs.Answers.{number, start_number, feed_numbers, question_numbers, stack_numbers};
 
 // A cell's number and a state's: two types, so that neither is taken for the other.
 #[derive(Clone, Copy)]
@@ -152,7 +152,7 @@ pub enum StartAnswer {
 
 impl StartAnswer {
     pub fn number(self) -> u8
-        ensures { result ≡ startNumber self }
+        ensures { result ≡ start_number self }
     {
         match self {
             StartAnswer::Done => 0,
@@ -179,7 +179,7 @@ pub struct FeedNumbers {
 
 impl FeedAnswer {
     pub fn numbers(self) -> FeedNumbers
-        ensures { result ≡ feedNumbers self }
+        ensures { result ≡ feed_numbers self }
     {
         match self {
             FeedAnswer::Done { errors, walked } => FeedNumbers {
@@ -216,7 +216,7 @@ pub struct QuestionNumbers {
 
 impl QuestionAnswer {
     pub fn numbers(self) -> QuestionNumbers
-        ensures { result ≡ questionNumbers self }
+        ensures { result ≡ question_numbers self }
     {
         match self {
             QuestionAnswer::Yes => QuestionNumbers {
@@ -250,7 +250,7 @@ pub struct StackNumbers {
 
 impl StackAnswer {
     pub fn numbers(self) -> StackNumbers
-        ensures { result ≡ stackNumbers self }
+        ensures { result ≡ stack_numbers self }
     {
         match self {
             StackAnswer::Read { height, mark } => StackNumbers {

@@ -5,7 +5,7 @@ use mathlib.Core.Bool.{Bool, true, false, not}
 use mathlib.Core.List.{List, [], ◌∷◌, map}
 use lib.Dec.{leb}
 use lib.ListN.{length, get_or}
-use Rattle.meaning.specs.Basics.{nothing, just, isNil}
+use Rattle.meaning.specs.Basics.{nothing, just, is_nil}
 use Rattle.std.specs.Prelude.{if◌then◌else◌}
 use Rattle.meaning.specs.Calls.{State, check_state, checked, written, StartCall, start_call, wrong_class, wrong_term, FeedCall, feed_refused, feed_ended, feed_right, feed_call, takes_right, takes_call, can_end_call, can_recover_call, StackCall, no_reading, stack_refused, stack_read, stack_right, stack_call}
 use Rattle.meaning.specs.Feeding.{feed}
@@ -66,7 +66,7 @@ module _ (lengths : Bool) (table : List ℕ) (s s' : State) (h : SameState s s')
   unfolding takes_call takes_right
   takes_same class =
       checked_same (λ (p q : QuestionAnswer). p ≡ q) lengths table s s' Refused Refused _ _ h (λ k. refl)
-      (λ t rs rs' d e. to_renamed (λ l. if isNil l then No else if wrong_class t.counts.classes class then Refused WrongArgument else takes t class l) rs rs'
+      (λ t rs rs' d e. to_renamed (λ l. if is_nil l then No else if wrong_class t.counts.classes class then Refused WrongArgument else takes t class l) rs rs'
       (λ ρ. ap₂ {C = QuestionAnswer} (λ b q. if b then No else if wrong_class t.counts.classes class then Refused WrongArgument else q) (sym (nil_map (ren_reading ρ) rs)) (takes_ren ρ t class rs)))
 
   pub can_end_same : can_end_call lengths table s ≡ can_end_call lengths table s'
@@ -139,8 +139,8 @@ module _ (x : Term) (errors : List ErrorRecord) (n m : ℕ) where
     right_same : SameCalls (feed_right t x rs errors n) (feed_right t x rs' errors m)
     unfolding feed_right
     right_same =
-        subst (λ (c : Bool). SameCalls (feed_right t x rs errors n) (goes c (wrong_term t.counts.classes x) rs' m)) (sym (nil_map (ren_reading h.rename) rs) ∙ sym (ap isNil h.same))
-        (at (isNil rs) (wrong_term t.counts.classes x))
+        subst (λ (c : Bool). SameCalls (feed_right t x rs errors n) (goes c (wrong_term t.counts.classes x) rs' m)) (sym (nil_map (ren_reading h.rename) rs) ∙ sym (ap is_nil h.same))
+        (at (is_nil rs) (wrong_term t.counts.classes x))
       where
         goes : Bool → Bool → List Reading → ℕ → FeedCall
         goes c d l next = (if c then feed_refused (just l) errors Consumed else if d then feed_refused (just l) errors WrongArgument else feed_ended errors (feed t x l next))

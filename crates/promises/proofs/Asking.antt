@@ -7,8 +7,8 @@ use mathlib.Core.List.{List, [], ◌∷◌}
 use mathlib.Core.Logic.{◌⊎◌, inl, inr}
 use lib.Dec.{leb}
 use lib.ListN.{length, get_or}
-use Rattle.meaning.specs.Answers.{number, questionNumbers}
-use Rattle.meaning.specs.Basics.{isNil, just, AllOf}
+use Rattle.meaning.specs.Answers.{number, question_numbers}
+use Rattle.meaning.specs.Basics.{is_nil, just, AllOf}
 use Rattle.std.specs.Prelude.{if◌then◌else◌}
 use Rattle.meaning.specs.Calls.{State, checked, wrong_class, takes_right, takes_call, can_end_call, can_recover_call, StackCall, no_reading, stack_refused, stack_read, stack_right, stack_call}
 use Rattle.meaning.specs.Questions.{takes, can_end, can_recover}
@@ -45,52 +45,52 @@ number_not_4 n h e = at h.0
     at (inl z) = omega arith
     at (inr l) = omega arith
 
-asked : (lengths : Bool) (table : List ℕ) (state : State) (go : Table → List Reading → QuestionAnswer) → ((t : Table) (rs : List Reading) → Number (questionNumbers (go t rs)).answer) →
-    Asked lengths state (questionNumbers (checked lengths table state Refused go)).answer
+asked : (lengths : Bool) (table : List ℕ) (state : State) (go : Table → List Reading → QuestionAnswer) → ((t : Table) (rs : List Reading) → Number (question_numbers (go t rs)).answer) →
+    Asked lengths state (question_numbers (checked lengths table state Refused go)).answer
 asked lengths table state go h = at (checks lengths table state Refused go)
   where
     n : ℕ
-    n = (questionNumbers (checked lengths table state Refused go)).answer
+    n = (question_numbers (checked lengths table state Refused go)).answer
 
     told : Tells lengths state n
-    told = tells lengths table state Refused go (λ (q : QuestionAnswer). (questionNumbers q).answer) (λ k. refl) (λ t rs. number_later (questionNumbers (go t rs)).answer (h t rs))
+    told = tells lengths table state Refused go (λ (q : QuestionAnswer). (question_numbers q).answer) (λ k. refl) (λ t rs. number_later (question_numbers (go t rs)).answer (h t rs))
 
     at : Stopped lengths table state Refused go ⊎ Passed lengths table state Refused go → Asked lengths state n
     at (inl s) =
-        let e : n ≡ number s.by = ap (λ (q : QuestionAnswer). (questionNumbers q).answer) s.is in
+        let e : n ≡ number s.by = ap (λ (q : QuestionAnswer). (question_numbers q).answer) s.is in
         let f = s.few in
         record { few = omega arith; not_4 = λ z. omega arith; tells_of = told }
     at (inr p) =
-        let e : n ≡ (questionNumbers (go (table_of table) p.found)).answer = ap (λ (q : QuestionAnswer). (questionNumbers q).answer) p.is in
+        let e : n ≡ (question_numbers (go (table_of table) p.found)).answer = ap (λ (q : QuestionAnswer). (question_numbers q).answer) p.is in
         let g = h (table_of table) p.found in
         let f = g.1 in
-        record { few = omega arith; not_4 = λ z. number_not_4 (questionNumbers (go (table_of table) p.found)).answer g (sym e ∙ z); tells_of = told }
+        record { few = omega arith; not_4 = λ z. number_not_4 (question_numbers (go (table_of table) p.found)).answer g (sym e ∙ z); tells_of = told }
 
-only_number : (q : QuestionAnswer) → OnlyFrom6To10 q → Number (questionNumbers q).answer
+only_number : (q : QuestionAnswer) → OnlyFrom6To10 q → Number (question_numbers q).answer
 only_number Yes h = (inl refl, omega arith)
 only_number No h = (inl refl, omega arith)
 only_number (Refused k) h = let a = h.0 in (inr (omega arith), h.1)
 
 module _ (lengths : Bool) (table : List ℕ) (state : State) where
-  pub takes_asked : (class : ℕ) → Asked lengths state (questionNumbers (takes_call lengths table state class)).answer
+  pub takes_asked : (class : ℕ) → Asked lengths state (question_numbers (takes_call lengths table state class)).answer
   unfolding takes_call takes_right
   takes_asked class =
-      asked lengths table state (λ t rs. go (isNil rs) (wrong_class t.counts.classes class) t rs)
-      (λ t rs. at (isNil rs) (wrong_class t.counts.classes class) t rs)
+      asked lengths table state (λ t rs. go (is_nil rs) (wrong_class t.counts.classes class) t rs)
+      (λ t rs. at (is_nil rs) (wrong_class t.counts.classes class) t rs)
     where
       go : Bool → Bool → Table → List Reading → QuestionAnswer
       go b d t rs = (if b then No else if d then Refused WrongArgument else takes t class rs)
 
-      at : (b d : Bool) (t : Table) (rs : List Reading) → Number (questionNumbers (go b d t rs)).answer
+      at : (b d : Bool) (t : Table) (rs : List Reading) → Number (question_numbers (go b d t rs)).answer
       at true d t rs = (inl refl, omega arith)
       at false true t rs = (inr (omega arith), omega arith)
       at false false t rs = only_number (takes t class rs) (takes_only t class rs)
 
-  pub can_end_asked : Asked lengths state (questionNumbers (can_end_call lengths table state)).answer
+  pub can_end_asked : Asked lengths state (question_numbers (can_end_call lengths table state)).answer
   unfolding can_end_call
   can_end_asked = asked lengths table state can_end (λ t rs. only_number (can_end t rs) (can_end_only t rs))
 
-  pub can_recover_asked : Asked lengths state (questionNumbers (can_recover_call lengths table state)).answer
+  pub can_recover_asked : Asked lengths state (question_numbers (can_recover_call lengths table state)).answer
   unfolding can_recover_call
   can_recover_asked = asked lengths table state can_recover (λ t rs. only_number (can_recover t rs) (can_recover_only t rs))
 
@@ -112,10 +112,10 @@ module _ (lengths : Bool) (table : List ℕ) (state : State) (i : ℕ) (entries 
   reads_by b d t rs = (if b then stack_refused entries Consumed else if d then stack_refused entries WrongArgument else stack_read entries (get_or rs i no_reading))
 
   abbrev reads : Table → List Reading → StackCall
-  reads t rs = reads_by (isNil rs) (leb (length rs) i) t rs
+  reads t rs = reads_by (is_nil rs) (leb (length rs) i) t rs
 
   reads_later : (t : Table) (rs : List Reading) → Later (reads t rs).says.answer
-  reads_later t rs = at (isNil rs) (leb (length rs) i)
+  reads_later t rs = at (is_nil rs) (leb (length rs) i)
     where
       at : (b d : Bool) → Later (reads_by b d t rs).says.answer
       at true d = inr (omega arith)
@@ -130,7 +130,7 @@ module _ (lengths : Bool) (table : List ℕ) (state : State) (i : ℕ) (entries 
   unfolding stack_call stack_right
   stack_case = at (checks lengths table state (stack_refused entries) reads)
     where
-      past : (p : Passed lengths table state (stack_refused entries) reads) (b : Bool) → isNil p.found ≡ b → (d : Bool) → leb (length p.found) i ≡ d → StackStopped ⊎ StackWent
+      past : (p : Passed lengths table state (stack_refused entries) reads) (b : Bool) → is_nil p.found ≡ b → (d : Bool) → leb (length p.found) i ≡ d → StackStopped ⊎ StackWent
       past p true e d f = inl (record { by = Consumed; is = p.is ∙ ap (λ (c : Bool). reads_by c (leb (length p.found) i) (table_of table) p.found) e; few = omega arith })
       past p false e true f = inl (record { by = WrongArgument; is = p.is ∙ ap₂ {C = StackCall} (λ c h. reads_by c h (table_of table) p.found) e f; few = omega arith })
       past p false e false f =
@@ -144,7 +144,7 @@ module _ (lengths : Bool) (table : List ℕ) (state : State) (i : ℕ) (entries 
 
       at : Stopped lengths table state (stack_refused entries) reads ⊎ Passed lengths table state (stack_refused entries) reads → StackStopped ⊎ StackWent
       at (inl s) = let f = s.few in inl (record { by = s.by; is = s.is; few = omega arith })
-      at (inr p) = past p (isNil p.found) refl (leb (length p.found) i) refl
+      at (inr p) = past p (is_nil p.found) refl (leb (length p.found) i) refl
 
 -- what holds of each of a list holds of the one at a place
 pub all_at : {A : Type 0} (P : A → Type 0) (l : List A) (i : ℕ) (d : A) → AllOf P l → i < length l → P (get_or l i d)

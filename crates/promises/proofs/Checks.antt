@@ -6,7 +6,7 @@ use mathlib.Core.Bool.{Bool, true, false, not}
 use mathlib.Core.List.{List, [], ◌∷◌}
 use mathlib.Core.Logic.{◌⊎◌, inl, inr}
 use Rattle.meaning.specs.Answers.{done, number}
-use Rattle.meaning.specs.Basics.{nothing, just, isNil}
+use Rattle.meaning.specs.Basics.{nothing, just, is_nil}
 use Rattle.std.specs.Prelude.{if◌then◌else◌}
 use Rattle.meaning.specs.Calls.{State, check_state, checked, StartCall, start_call, wrong_term, FeedCall, feed_refused, feed_ended, feed_right, feed_call}
 use Rattle.meaning.specs.Feeding.{feed}
@@ -141,7 +141,7 @@ module _ (lengths : Bool) (table : List ℕ) (state : State) (x : Term) (errors 
     pub right_lengths : lengths ≡ true
     pub right_table : table_ok table ≡ true
     pub state_is : state ≡ just found
-    pub some : isNil found ≡ false
+    pub some : is_nil found ≡ false
     pub right_term : wrong_term (table_of table).counts.classes x ≡ false
     pub is : feed_call lengths table state x errors next ≡ feed_ended errors (feed (table_of table) x found next)
 
@@ -150,10 +150,10 @@ module _ (lengths : Bool) (table : List ℕ) (state : State) (x : Term) (errors 
   goes_by b d t rs = (if b then feed_refused (just rs) errors Consumed else if d then feed_refused (just rs) errors WrongArgument else feed_ended errors (feed t x rs next))
 
   abbrev pub goes : Table → List Reading → FeedCall
-  goes t rs = goes_by (isNil rs) (wrong_term t.counts.classes x) t rs
+  goes t rs = goes_by (is_nil rs) (wrong_term t.counts.classes x) t rs
 
   goes_later : (t : Table) (rs : List Reading) → Later (goes t rs).says.answer
-  goes_later t rs = at (isNil rs) (wrong_term t.counts.classes x) (feed_ranged t x rs next).0
+  goes_later t rs = at (is_nil rs) (wrong_term t.counts.classes x) (feed_ranged t x rs next).0
     where
       later : (n : ℕ) → (n ≡ 0) ⊎ (6 ≤ n) → Later n
       later n (inl e) = inl e
@@ -175,7 +175,7 @@ module _ (lengths : Bool) (table : List ℕ) (state : State) (x : Term) (errors 
       kept : (p : Passed lengths table state (feed_refused state errors) goes) (k : Refusal) → feed_refused (just p.found) errors k ≡ feed_refused state errors k
       kept p k = ap (λ (s : State). feed_refused s errors k) (sym p.state_is)
 
-      past : (p : Passed lengths table state (feed_refused state errors) goes) (b : Bool) → isNil p.found ≡ b → (d : Bool) → wrong_term (table_of table).counts.classes x ≡ d → FeedStopped ⊎ FeedWent
+      past : (p : Passed lengths table state (feed_refused state errors) goes) (b : Bool) → is_nil p.found ≡ b → (d : Bool) → wrong_term (table_of table).counts.classes x ≡ d → FeedStopped ⊎ FeedWent
       past p true e d f =
           inl (record { by = Consumed; is = p.is ∙ ap (λ (c : Bool). goes_by c (wrong_term (table_of table).counts.classes x) (table_of table) p.found) e ∙ kept p Consumed; few = omega arith })
       past p false e true f = inl (record { by = WrongArgument; is = p.is ∙ ap₂ {C = FeedCall} (λ c h. goes_by c h (table_of table) p.found) e f ∙ kept p WrongArgument; few = omega arith })
@@ -192,10 +192,10 @@ module _ (lengths : Bool) (table : List ℕ) (state : State) (x : Term) (errors 
 
       at : Stopped lengths table state (feed_refused state errors) goes ⊎ Passed lengths table state (feed_refused state errors) goes → FeedStopped ⊎ FeedWent
       at (inl s) = let f = s.few in inl (record { by = s.by; is = s.is; few = omega arith })
-      at (inr p) = past p (isNil p.found) refl (wrong_term (table_of table).counts.classes x) refl
+      at (inr p) = past p (is_nil p.found) refl (wrong_term (table_of table).counts.classes x) refl
 
   -- where all is right, it is fed
-  pub feed_goes : lengths ≡ true → table_ok table ≡ true → (rs : List Reading) → state ≡ just rs → isNil rs ≡ false → wrong_term (table_of table).counts.classes x ≡ false → FeedWent
+  pub feed_goes : lengths ≡ true → table_ok table ≡ true → (rs : List Reading) → state ≡ just rs → is_nil rs ≡ false → wrong_term (table_of table).counts.classes x ≡ false → FeedWent
   unfolding feed_call feed_right
   feed_goes a b rs c d e = record { found = rs; right_lengths = a; right_table = b; state_is = c; some = d; right_term = e; is = fed }
     where

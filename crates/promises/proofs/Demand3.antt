@@ -7,8 +7,8 @@ use mathlib.Core.List.{List, map}
 use mathlib.Core.Logic.{◌⊎◌, inl, inr}
 use lib.ListN.{length, take, drop}
 use lib.Seq.{take-append_seam}
-use Rattle.meaning.specs.Answers.{number, feedNumbers}
-use Rattle.meaning.specs.Basics.{nothing, just, isNil}
+use Rattle.meaning.specs.Answers.{number, feed_numbers}
+use Rattle.meaning.specs.Basics.{nothing, just, is_nil}
 use Rattle.meaning.specs.Calls.{State, wrong_term, FeedCall}
 use Rattle.meaning.specs.Demand3.{Same, Undisturbed, Alike, ByChains}
 use Rattle.meaning.specs.Feeding.{feed}
@@ -58,7 +58,7 @@ module _ (table state work : List ℕ) (x : Term) (errors : List ErrorRecord) (r
       f : Fed
       f = feed (table_of table) x w.found (used_of state)
 
-      says : feedNumbers r ≡ record { answer = f.answer; errors = length f.errors; walked = f.walked }
+      says : feed_numbers r ≡ record { answer = f.answer; errors = length f.errors; walked = f.walked }
       says = a.leaves.answers ∙ ap (λ (c : FeedCall). c.says) w.is
 
       told : Came f (fed_by r state' errors')
@@ -70,22 +70,22 @@ module _ (table state work : List ℕ) (x : Term) (errors : List ErrorRecord) (r
       }
 
   -- not refused, so it went
-  pub went : (Refusing (feedNumbers r).answer → ⊥) → Went
+  pub went : (Refusing (feed_numbers r).answer → ⊥) → Went
   went h = at (feed_case (feed_lengths state work (length errors)) table (state_for table state) x errors (used_of state))
     where
       at : FeedStopped (feed_lengths state work (length errors)) table (state_for table state) x errors (used_of state) ⊎ Went → Went
       at (inl s) =
-          let e : (feedNumbers r).answer ≡ number s.by = ap (λ (m : FeedNumbers). m.answer) (a.leaves.answers ∙ ap (λ (c : FeedCall). c.says) s.is) in
+          let e : (feed_numbers r).answer ≡ number s.by = ap (λ (m : FeedNumbers). m.answer) (a.leaves.answers ∙ ap (λ (c : FeedCall). c.says) s.is) in
           absurd (h (subst Refusing (sym e) (number_range s.by)))
       at (inr w) = w
 
   -- past the checks, with a right table and term and some reading: it went
-  pub went_too : PassedCheck (feedNumbers r).answer → table_ok table ≡ true → wrong_term (table_of table).counts.classes x ≡ false → isNil (readings_of state) ≡ false → Went
+  pub went_too : PassedCheck (feed_numbers r).answer → table_ok table ≡ true → wrong_term (table_of table).counts.classes x ≡ false → is_nil (readings_of state) ≡ false → Went
   went_too p b e d =
       feed_goes (feed_lengths state work (length errors)) table (state_for table state) x errors (used_of state) (lengths (feed_lengths state work (length errors)) refl) b (readings_of state)
       (fits_found table state (some_fits table state (told.passed p))) d e
     where
-      told : Tells (feed_lengths state work (length errors)) (state_for table state) (feedNumbers r).answer
+      told : Tells (feed_lengths state work (length errors)) (state_for table state) (feed_numbers r).answer
       told =
           subst (λ (m : FeedNumbers). Tells (feed_lengths state work (length errors)) (state_for table state) m.answer) (sym a.leaves.answers)
           (feed_tells (feed_lengths state work (length errors)) table (state_for table state) x errors (used_of state))
@@ -108,7 +108,7 @@ order : (table : List ℕ) (x : Term) (state work : List ℕ) (errors : List Err
     (twin spare : List ℕ) (others : List ErrorRecord) (q : FeedAnswer) (twin' spare' : List ℕ) (others' : List ErrorRecord) →
     FeedPromise table state work x errors r state' work' errors' → FeedPromise table twin spare x others q twin' spare' others' →
     Same (map plain (readings_of state)) (map plain (readings_of twin)) →
-    (Refusing (feedNumbers r).answer → ⊥) → Recovers table state x ≡ false → PassedCheck (feedNumbers q).answer →
+    (Refusing (feed_numbers r).answer → ⊥) → Recovers table state x ≡ false → PassedCheck (feed_numbers q).answer →
     (Recovers table twin x ≡ false) × Alike (fed_by r state' errors') (fed_by q twin' others')
 order table x state work errors r state' work' errors' twin spare others q twin' spare' others' a b same free calm passed = (both.0.no_recovery, alike f g (fed_by r state' errors') (fed_by q twin' others') c d both.1)
   where
@@ -124,10 +124,10 @@ order table x state work errors r state' work' errors' twin spare others q twin'
     c : Came f (fed_by r state' errors')
     c = came table state work x errors r state' work' errors' a w
 
-    some : isNil (readings_of twin) ≡ false
+    some : is_nil (readings_of twin) ≡ false
     some =
         sym (nil_map plain (readings_of twin)) ∙ sym (nil_perm same) ∙ nil_map plain (readings_of state)
-        ∙ subst (λ (rs : List Reading). isNil rs ≡ false) (found_holds table state w.found w.state_is).are w.some
+        ∙ subst (λ (rs : List Reading). is_nil rs ≡ false) (found_holds table state w.found w.state_is).are w.some
 
     d : Came g (fed_by q twin' others')
     d = came table twin spare x others q twin' spare' others' b (went_too table twin spare x others q twin' spare' others' b passed w.right_table w.right_term some)
@@ -138,7 +138,7 @@ order table x state work errors r state' work' errors' twin spare others q twin'
         (record { no_recovery = calm; not_refused = λ h. free (subst Refusing (sym c.answer) h) })
 
 chains : (table : List ℕ) (x : Term) (state work : List ℕ) (errors : List ErrorRecord) (r : FeedAnswer) (state' work' : List ℕ) (errors' : List ErrorRecord) →
-    FeedPromise table state work x errors r state' work' errors' → (feedNumbers r).answer ≡ 0 → Recovers table state x ≡ false →
+    FeedPromise table state work x errors r state' work' errors' → (feed_numbers r).answer ≡ 0 → Recovers table state x ≡ false →
     ByChains (table_of table) x (readings_of state) (fed_by r state' errors')
 chains table x state work errors r state' work' errors' a zero_is calm =
     let f = feed (table_of table) x (readings_of state) (used_of state) in

@@ -7,7 +7,7 @@ use mathlib.Core.List.{List, map}
 use mathlib.Core.Logic.{◌⊎◌, inl, inr}
 use lib.ListN.{length, get_or, drop}
 use borrow.Author.Tests.{leb-false}
-use Rattle.meaning.specs.Answers.{number, startNumber, feedNumbers, questionNumbers, stackNumbers}
+use Rattle.meaning.specs.Answers.{number, start_number, feed_numbers, question_numbers, stack_numbers}
 use Rattle.meaning.specs.Bounds.{Standing, Bounded}
 use Rattle.meaning.specs.Calls.{State, no_reading, StartCall, FeedCall, StackCall}
 use Rattle.meaning.specs.Feeding.{feed}
@@ -53,43 +53,43 @@ unfolding start_of
 length_start_of q s = simp (length_put_u16, length_put_slot, length_put_cell)
 
 module _ (table state work : List ℕ) (r : StartAnswer) (state' work' : List ℕ) (a : StartPromise table state work r state' work') where
-  state_by : (n : ℕ) → startNumber r ≡ n → length state' ≡ length state
+  state_by : (n : ℕ) → start_number r ≡ n → length state' ≡ length state
   state_by zero e = ap length (a.leaves.started e).exact ∙ length_start_of _ state
   state_by (suc n) e = ap length (a.leaves.refused (λ z. omega arith))
 
   start_keeps : StartKeeps state work r state' work'
   start_keeps = at (start_case (lengths_right state work) table (state_for table state) 0)
     where
-      keeps : startNumber r ≤ 2 → (lengths_right state work ≡ false → startNumber r ≡ 1) → (lengths_right state work ≡ true → startNumber r ≡ 1 → ⊥) → StartKeeps state work r state' work'
+      keeps : start_number r ≤ 2 → (lengths_right state work ≡ false → start_number r ≡ 1) → (lengths_right state work ≡ true → start_number r ≡ 1 → ⊥) → StartKeeps state work r state' work'
       keeps few wrong right =
           record {
             answer = few;
             state_kept = λ h. a.leaves.refused (λ z. let l = h.0 in omega arith);
-            state_long = state_by (startNumber r) refl;
-            work_left = work_is (lengths_right state work) (startNumber r) work work' wrong right a.cleared;
+            state_long = state_by (start_number r) refl;
+            work_left = work_is (lengths_right state work) (start_number r) work work' wrong right a.cleared;
           }
 
       at : StartStopped (lengths_right state work) table (state_for table state) 0 ⊎ StartWent (lengths_right state work) table (state_for table state) 0 → StartKeeps state work r state' work'
       at (inl s) =
-          let e : startNumber r ≡ number s.by = a.leaves.answers ∙ ap (λ (c : StartCall). c.answer) s.is in
+          let e : start_number r ≡ number s.by = a.leaves.answers ∙ ap (λ (c : StartCall). c.answer) s.is in
           let f = s.few in
           keeps (omega arith) (λ q. e ∙ s.wrong_lengths q) (λ q z. let t = s.right_lengths q in omega arith)
       at (inr w) =
-          let e : startNumber r ≡ 0 = a.leaves.answers ∙ ap (λ (c : StartCall). c.answer) w.is in
+          let e : start_number r ≡ 0 = a.leaves.answers ∙ ap (λ (c : StartCall). c.answer) w.is in
           keeps (omega arith) (λ q. no_false (sym q ∙ w.lengths_hold)) (λ q z. omega arith)
 
 -- The questions.
 
-asks_keep : (call : Bool → QuestionAnswer) (s : State) (state work : List ℕ) (r : QuestionAnswer) (work' : List ℕ) → ((b : Bool) → Asked b s (questionNumbers (call b)).answer) →
+asks_keep : (call : Bool → QuestionAnswer) (s : State) (state work : List ℕ) (r : QuestionAnswer) (work' : List ℕ) → ((b : Bool) → Asked b s (question_numbers (call b)).answer) →
     QuestionPromise call state work r work' → QuestionKeeps work r work'
 asks_keep call s state work r work' h a =
     let k = h (lengths_right state work) in
-    let e : (questionNumbers r).answer ≡ (questionNumbers (call (lengths_right state work))).answer = ap (λ (q : QuestionAnswer). (questionNumbers q).answer) a.answers in
+    let e : (question_numbers r).answer ≡ (question_numbers (call (lengths_right state work))).answer = ap (λ (q : QuestionAnswer). (question_numbers q).answer) a.answers in
     let f = k.few in
     record {
       answer = omega arith;
       answer_not_4 = λ z. k.not_4 (sym e ∙ z);
-      work_left = work_is (lengths_right state work) (questionNumbers r).answer work work' (λ q. e ∙ k.tells_of.wrong_lengths q) (λ q z. k.tells_of.right_lengths q (sym e ∙ z)) a.cleared;
+      work_left = work_is (lengths_right state work) (question_numbers r).answer work work' (λ q. e ∙ k.tells_of.wrong_lengths q) (λ q z. k.tells_of.right_lengths q (sym e ∙ z)) a.cleared;
     }
 
 -- Reading a stack out.
@@ -103,16 +103,16 @@ module _ (table state : List ℕ) (i : ℕ) (entries : List SeenEntry) (r : Stac
 
       at : StackStopped b table (state_for table state) i entries ⊎ StackWent b table (state_for table state) i entries → StackKeeps entries r entries'
       at (inl s) =
-          let e : stackNumbers r ≡ record { answer = number s.by; height = 0; mark = 0 } = a.answers ∙ ap (λ (c : StackCall). c.says) s.is in
-          let n : (stackNumbers r).answer ≡ number s.by = ap (λ (m : StackNumbers). m.answer) e in
+          let e : stack_numbers r ≡ record { answer = number s.by; height = 0; mark = 0 } = a.answers ∙ ap (λ (c : StackCall). c.says) s.is in
+          let n : (stack_numbers r).answer ≡ number s.by = ap (λ (m : StackNumbers). m.answer) e in
           let same : entries' ≡ entries = a.entries_are ∙ ap (λ (c : StackCall). c.entries) s.is in
           let f = s.few in
-          record { answer = omega arith; entries_kept = λ h. same; entries_long = ap length same; entries_past = ap (drop (stackNumbers r).height) same }
+          record { answer = omega arith; entries_kept = λ h. same; entries_long = ap length same; entries_past = ap (drop (stack_numbers r).height) same }
       at (inr w) =
           let q : Reading = get_or w.found i no_reading in
-          let e : stackNumbers r ≡ record { answer = 0; height = length q.stack; mark = q.mark } = a.answers ∙ ap (λ (c : StackCall). c.says) w.is in
-          let n : (stackNumbers r).answer ≡ 0 = ap (λ (m : StackNumbers). m.answer) e in
-          let high : (stackNumbers r).height ≡ length (map seen q.stack) = ap (λ (m : StackNumbers). m.height) e ∙ sym (length-map seen q.stack) in
+          let e : stack_numbers r ≡ record { answer = 0; height = length q.stack; mark = q.mark } = a.answers ∙ ap (λ (c : StackCall). c.says) w.is in
+          let n : (stack_numbers r).answer ≡ 0 = ap (λ (m : StackNumbers). m.answer) e in
+          let high : (stack_numbers r).height ≡ length (map seen q.stack) = ap (λ (m : StackNumbers). m.height) e ∙ sym (length-map seen q.stack) in
           let is = a.entries_are ∙ ap (λ (c : StackCall). c.entries) w.is in
           let stands : Standing q = all_at Standing w.found i no_reading (found_holds table state w.found w.state_is).facts.standing (leb-false (length w.found) i w.there) in
           let top = stands.1 in
@@ -129,7 +129,7 @@ module _ (table state : List ℕ) (i : ℕ) (entries : List SeenEntry) (r : Stac
 -- Feed.
 
 -- a refusal has no errors
-refusing_none : (r : FeedAnswer) → Refusing (feedNumbers r).answer → (feedNumbers r).errors ≡ 0
+refusing_none : (r : FeedAnswer) → Refusing (feed_numbers r).answer → (feed_numbers r).errors ≡ 0
 refusing_none (fed.Done errors walked) h = let z = h.0 in absurd (omega arith)
 refusing_none (fed.NotTaken errors walked) h = let z = h.1 in absurd (omega arith)
 refusing_none (fed.Refused k) h = refl
@@ -140,11 +140,11 @@ module _ (table state work : List ℕ) (x : Term) (errors : List ErrorRecord) (r
   right = feed_lengths state work (length errors)
 
   -- the parts that do not depend on how the feed went
-  feed_parts : (feedNumbers r).answer ≤ 12 → (Refusing (feedNumbers r).answer → errors' ≡ errors) → length errors' ≡ length errors → drop (feedNumbers r).errors errors' ≡ drop (feedNumbers r).errors errors →
-      (feedNumbers r).errors ≤ 32 → (feedNumbers r).walked ≤ 1081344 → FeedKeeps state work errors r state' work' errors'
+  feed_parts : (feed_numbers r).answer ≤ 12 → (Refusing (feed_numbers r).answer → errors' ≡ errors) → length errors' ≡ length errors → drop (feed_numbers r).errors errors' ≡ drop (feed_numbers r).errors errors →
+      (feed_numbers r).errors ≤ 32 → (feed_numbers r).walked ≤ 1081344 → FeedKeeps state work errors r state' work' errors'
   unfolding right
   feed_parts few kept long past some walked =
-      let n : (feedNumbers r).answer ≡ (feed_on table state work x errors).says.answer = ap (λ (m : FeedNumbers). m.answer) a.leaves.answers in
+      let n : (feed_numbers r).answer ≡ (feed_on table state work x errors).says.answer = ap (λ (m : FeedNumbers). m.answer) a.leaves.answers in
       let t = feed_tells right table (state_for table state) x errors (used_of state) in
       record {
         answer = few;
@@ -155,7 +155,7 @@ module _ (table state work : List ℕ) (x : Term) (errors : List ErrorRecord) (r
         errors_past = past;
         errors_few = some;
         walked_few = walked;
-        work_left = work_is right (feedNumbers r).answer work work' (λ q. n ∙ t.wrong_lengths q) (λ q z. t.right_lengths q (sym n ∙ z)) a.cleared;
+        work_left = work_is right (feed_numbers r).answer work work' (λ q. n ∙ t.wrong_lengths q) (λ q z. t.right_lengths q (sym n ∙ z)) a.cleared;
       }
 
   feed_keeps : FeedKeeps state work errors r state' work' errors'
@@ -164,19 +164,19 @@ module _ (table state work : List ℕ) (x : Term) (errors : List ErrorRecord) (r
     where
       at : FeedStopped right table (state_for table state) x errors (used_of state) ⊎ FeedWent right table (state_for table state) x errors (used_of state) → FeedKeeps state work errors r state' work' errors'
       at (inl s) =
-          let e : feedNumbers r ≡ record { answer = number s.by; errors = 0; walked = 0 } = a.leaves.answers ∙ ap (λ (c : FeedCall). c.says) s.is in
-          let n : (feedNumbers r).answer ≡ number s.by = ap (λ (m : FeedNumbers). m.answer) e in
-          let c : (feedNumbers r).errors ≡ 0 = ap (λ (m : FeedNumbers). m.errors) e in
-          let w : (feedNumbers r).walked ≡ 0 = ap (λ (m : FeedNumbers). m.walked) e in
+          let e : feed_numbers r ≡ record { answer = number s.by; errors = 0; walked = 0 } = a.leaves.answers ∙ ap (λ (c : FeedCall). c.says) s.is in
+          let n : (feed_numbers r).answer ≡ number s.by = ap (λ (m : FeedNumbers). m.answer) e in
+          let c : (feed_numbers r).errors ≡ 0 = ap (λ (m : FeedNumbers). m.errors) e in
+          let w : (feed_numbers r).walked ≡ 0 = ap (λ (m : FeedNumbers). m.walked) e in
           let same : errors' ≡ errors = a.leaves.errors_are ∙ ap (λ (c : FeedCall). c.errors) s.is in
           let f = s.few in
-          feed_parts (omega arith) (λ h. same) (ap length same) (ap (drop (feedNumbers r).errors) same) (omega arith) (omega arith)
+          feed_parts (omega arith) (λ h. same) (ap length same) (ap (drop (feed_numbers r).errors) same) (omega arith) (omega arith)
       at (inr w) =
           let f = feed (table_of table) x w.found (used_of state) in
-          let e : feedNumbers r ≡ record { answer = f.answer; errors = length f.errors; walked = f.walked } = a.leaves.answers ∙ ap (λ (c : FeedCall). c.says) w.is in
-          let n : (feedNumbers r).answer ≡ f.answer = ap (λ (m : FeedNumbers). m.answer) e in
-          let c : (feedNumbers r).errors ≡ length f.errors = ap (λ (m : FeedNumbers). m.errors) e in
-          let k : (feedNumbers r).walked ≡ f.walked = ap (λ (m : FeedNumbers). m.walked) e in
+          let e : feed_numbers r ≡ record { answer = f.answer; errors = length f.errors; walked = f.walked } = a.leaves.answers ∙ ap (λ (c : FeedCall). c.says) w.is in
+          let n : (feed_numbers r).answer ≡ f.answer = ap (λ (m : FeedNumbers). m.answer) e in
+          let c : (feed_numbers r).errors ≡ length f.errors = ap (λ (m : FeedNumbers). m.errors) e in
+          let k : (feed_numbers r).walked ≡ f.walked = ap (λ (m : FeedNumbers). m.walked) e in
           let is = a.leaves.errors_are ∙ ap (λ (c : FeedCall). c.errors) w.is in
           let facts = (found_holds table state w.found w.state_is).facts in
           let bound : Bounded (used_of state) f = bounds (table_of table) x w.found (used_of state) facts.few facts.standing in

@@ -6,7 +6,7 @@ use mathlib.Core.Bool.{Bool}
 use mathlib.Core.List.{List, [], ◌∷◌}
 use mathlib.Core.Logic.{◌⊎◌, inl, inr}
 use lib.ListN.{length}
-use Rattle.meaning.specs.Answers.{number, startNumber, feedNumbers, questionNumbers, stackNumbers}
+use Rattle.meaning.specs.Answers.{number, start_number, feed_numbers, question_numbers, stack_numbers}
 use Rattle.meaning.specs.Basics.{nothing, just}
 use Rattle.meaning.specs.Calls.{State, StartCall, FeedCall}
 use Rattle.meaning.specs.Feeding.{feed}
@@ -31,7 +31,7 @@ use Rattle.promises.proofs.Buffers.{found_holds, fits_some, some_fits}
 use Rattle.promises.proofs.Checks.{no_nothing, StartStopped, StartWent, start_case, Tells, FeedStopped, FeedWent, feed_case, feed_tells}
 
 -- Start.
-start_leaves : (table state work : List ℕ) (r : StartAnswer) (state' work' : List ℕ) → StartPromise table state work r state' work' → startNumber r ≡ 0 → Fits table state'
+start_leaves : (table state work : List ℕ) (r : StartAnswer) (state' work' : List ℕ) → StartPromise table state work r state' work' → start_number r ≡ 0 → Fits table state'
 start_leaves table state work r state' work' a z = at (start_case b table (state_for table state) 0)
   where
     b : Bool
@@ -39,7 +39,7 @@ start_leaves table state work r state' work' a z = at (start_case b table (state
 
     at : StartStopped b table (state_for table state) 0 ⊎ StartWent b table (state_for table state) 0 → Fits table state'
     at (inl s) =
-        let e : startNumber r ≡ number s.by = a.leaves.answers ∙ ap (λ (c : StartCall). c.answer) s.is in
+        let e : start_number r ≡ number s.by = a.leaves.answers ∙ ap (λ (c : StartCall). c.answer) s.is in
         let l = (number_range s.by).0 in
         absurd (omega arith)
     at (inr w) = (found_holds table state' (start_reading (table_of table) 0 ∷ []) (a.leaves.readings ∙ ap (λ (c : StartCall). c.state) w.is)).fits
@@ -56,7 +56,7 @@ module _ (table state work : List ℕ) (x : Term) (errors : List ErrorRecord) (r
   abbrev right : Bool
   right = feed_lengths state work (length errors)
 
-  told : Tells right (state_for table state) (feedNumbers r).answer
+  told : Tells right (state_for table state) (feed_numbers r).answer
   told =
       subst (λ (m : FeedNumbers). Tells right (state_for table state) m.answer) (sym a.leaves.answers) (feed_tells right table (state_for table state) x errors (used_of state))
 
@@ -67,35 +67,35 @@ module _ (table state work : List ℕ) (x : Term) (errors : List ErrorRecord) (r
       at (inl s) e = h (sym (ap (λ (c : FeedCall). c.state) s.is) ∙ e)
       at (inr w) e = no_nothing (feed (table_of table) x w.found (used_of state)).readings (sym (ap (λ (c : FeedCall). c.state) w.is) ∙ e)
 
-  feed_leaves : PassedCheck (feedNumbers r).answer → Fits table state'
+  feed_leaves : PassedCheck (feed_numbers r).answer → Fits table state'
   feed_leaves p = kept (told.passed p)
 
-  feed_takes : Fits table state → ((feedNumbers r).answer ≡ 3 → ⊥) × Fits table state'
+  feed_takes : Fits table state → ((feed_numbers r).answer ≡ 3 → ⊥) × Fits table state'
   feed_takes f = (told.right_state (fits_some table state f), kept (fits_some table state f))
 
 -- The questions.
-module _ (call : Bool → QuestionAnswer) (table state work : List ℕ) (r : QuestionAnswer) (work' : List ℕ) (h : (b : Bool) → Asked b (state_for table state) (questionNumbers (call b)).answer)
+module _ (call : Bool → QuestionAnswer) (table state work : List ℕ) (r : QuestionAnswer) (work' : List ℕ) (h : (b : Bool) → Asked b (state_for table state) (question_numbers (call b)).answer)
     (a : QuestionPromise call state work r work') where
-  asked_told : Tells (lengths_right state work) (state_for table state) (questionNumbers r).answer
-  asked_told = subst (λ (q : QuestionAnswer). Tells (lengths_right state work) (state_for table state) (questionNumbers q).answer) (sym a.answers) (h (lengths_right state work)).tells_of
+  asked_told : Tells (lengths_right state work) (state_for table state) (question_numbers r).answer
+  asked_told = subst (λ (q : QuestionAnswer). Tells (lengths_right state work) (state_for table state) (question_numbers q).answer) (sym a.answers) (h (lengths_right state work)).tells_of
 
-  asked_leaves : PassedCheck (questionNumbers r).answer → Fits table state
+  asked_leaves : PassedCheck (question_numbers r).answer → Fits table state
   asked_leaves p = some_fits table state (asked_told.passed p)
 
-  asked_takes : Fits table state → (questionNumbers r).answer ≡ 3 → ⊥
+  asked_takes : Fits table state → (question_numbers r).answer ≡ 3 → ⊥
   asked_takes f = asked_told.right_state (fits_some table state f)
 
 -- Reading a stack out.
 module _ (table state : List ℕ) (i : ℕ) (entries : List SeenEntry) (r : StackAnswer) (entries' : List SeenEntry) (a : StackPromise table state i entries r entries') where
-  stack_told : Tells (lists_right state (length entries)) (state_for table state) (stackNumbers r).answer
+  stack_told : Tells (lists_right state (length entries)) (state_for table state) (stack_numbers r).answer
   stack_told =
       subst (λ (m : StackNumbers). Tells (lists_right state (length entries)) (state_for table state) m.answer) (sym a.answers)
       (stack_tells (lists_right state (length entries)) table (state_for table state) i entries)
 
-  stack_leaves : PassedCheck (stackNumbers r).answer → Fits table state
+  stack_leaves : PassedCheck (stack_numbers r).answer → Fits table state
   stack_leaves p = some_fits table state (stack_told.passed p)
 
-  stack_takes : Fits table state → (stackNumbers r).answer ≡ 3 → ⊥
+  stack_takes : Fits table state → (stack_numbers r).answer ≡ 3 → ⊥
   stack_takes f = stack_told.right_state (fits_some table state f)
 
 pub never_wrong_state : NeverWrongState

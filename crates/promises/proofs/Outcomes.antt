@@ -4,7 +4,7 @@ use mathlib.Core.Bool.{Bool}
 use mathlib.Core.List.{List, [], ◌∷◌}
 use Prim.Native.Nat.{ℕ, zero, suc, ◌≤◌}
 use native.Mathlib.Omega.{arith}
-use Rattle.meaning.specs.Answers.{number, startNumber, feedNumbers, stackNumbers}
+use Rattle.meaning.specs.Answers.{number, start_number, feed_numbers, stack_numbers}
 use Rattle.meaning.specs.Basics.{nothing, just}
 use Rattle.meaning.specs.Calls.{State}
 use Rattle.meaning.specs.TableFile.{table_of}
@@ -60,14 +60,14 @@ refused_back done last f TooManyReadings = refl
 abbrev start_of : ℕ → StartAnswer
 start_of n = by_number start.Done start.Done start.Refused n
 
-start_back : (r : StartAnswer) → start_of (startNumber r) ≡ r
+start_back : (r : StartAnswer) → start_of (start_number r) ≡ r
 start_back start.Done = refl
 start_back (start.Refused k) = refused_back start.Done start.Done start.Refused k
 
 abbrev feed_of : FeedNumbers → FeedAnswer
 feed_of m = by_number (fed.Done m.errors m.walked) (fed.NotTaken m.errors m.walked) fed.Refused m.answer
 
-feed_back : (r : FeedAnswer) → feed_of (feedNumbers r) ≡ r
+feed_back : (r : FeedAnswer) → feed_of (feed_numbers r) ≡ r
 feed_back (fed.Done errors walked) = refl
 feed_back (fed.NotTaken errors walked) = refl
 feed_back (fed.Refused k) = refused_back (fed.Done 0 0) (fed.NotTaken 0 0) fed.Refused k
@@ -75,31 +75,31 @@ feed_back (fed.Refused k) = refused_back (fed.Done 0 0) (fed.NotTaken 0 0) fed.R
 abbrev stack_of : StackNumbers → StackAnswer
 stack_of m = by_number (stack.Read m.height m.mark) (stack.Read m.height m.mark) stack.Refused m.answer
 
-stack_back : (r : StackAnswer) → stack_of (stackNumbers r) ≡ r
+stack_back : (r : StackAnswer) → stack_of (stack_numbers r) ≡ r
 stack_back (stack.Read height mark) = refl
 stack_back (stack.Refused k) = refused_back (stack.Read 0 0) (stack.Read 0 0) stack.Refused k
 
 -- So an answer is known by its numbers.
-pub start_known : (r q : StartAnswer) → startNumber r ≡ startNumber q → r ≡ q
+pub start_known : (r q : StartAnswer) → start_number r ≡ start_number q → r ≡ q
 start_known r q e = sym (start_back r) ∙ ap start_of e ∙ start_back q
 
-pub feed_known : (r q : FeedAnswer) → feedNumbers r ≡ feedNumbers q → r ≡ q
+pub feed_known : (r q : FeedAnswer) → feed_numbers r ≡ feed_numbers q → r ≡ q
 feed_known r q e = sym (feed_back r) ∙ ap feed_of e ∙ feed_back q
 
-pub stack_known : (r q : StackAnswer) → stackNumbers r ≡ stackNumbers q → r ≡ q
+pub stack_known : (r q : StackAnswer) → stack_numbers r ≡ stack_numbers q → r ≡ q
 stack_known r q e = sym (stack_back r) ∙ ap stack_of e ∙ stack_back q
 
 module _ (table state work : List ℕ) (r q : StartAnswer) (state₁ work₁ state₂ work₂ : List ℕ) (a : StartPromise table state work r state₁ work₁) (b : StartPromise table state work q state₂ work₂) where
-  same_number : startNumber r ≡ startNumber q
+  same_number : start_number r ≡ start_number q
   same_number = a.leaves.answers ∙ sym b.leaves.answers
 
   -- the state by the number
-  same_state : (n : ℕ) → startNumber r ≡ n → state₁ ≡ state₂
+  same_state : (n : ℕ) → start_number r ≡ n → state₁ ≡ state₂
   same_state zero e = (a.leaves.started e).exact ∙ sym (b.leaves.started (sym same_number ∙ e)).exact
   same_state (suc n) e = a.leaves.refused (λ z. omega arith) ∙ sym (b.leaves.refused (λ z. let y = same_number in omega arith))
 
   pub start_determined : (r ≡ q) × (state₁ ≡ state₂) × (work₁ ≡ work₂)
-  start_determined = (start_known r q same_number, same_state (startNumber r) refl, a.cleared ∙ sym b.cleared)
+  start_determined = (start_known r q same_number, same_state (start_number r) refl, a.cleared ∙ sym b.cleared)
 
 pub question_determined : (call : Bool → QuestionAnswer) (state work : List ℕ) (r q : QuestionAnswer) (work₁ work₂ : List ℕ) → QuestionPromise call state work r work₁ → QuestionPromise call state work q work₂ → (r ≡ q) × (work₁ ≡ work₂)
 question_determined call state work r q work₁ work₂ a b = (a.answers ∙ sym b.answers, a.cleared ∙ sym b.cleared)
@@ -118,7 +118,7 @@ same_plain (just rs) (just rs') h = ap {B = State} just (sym (renamed_plain rs r
 
 module _ (table state work : List ℕ) (x : Term) (errors : List ErrorRecord) (r q : FeedAnswer) (state₁ work₁ state₂ work₂ : List ℕ) (errors₁ errors₂ : List ErrorRecord)
     (a : FeedPromise table state work x errors r state₁ work₁ errors₁) (b : FeedPromise table state work x errors q state₂ work₂ errors₂) where
-  same_numbers : feedNumbers r ≡ feedNumbers q
+  same_numbers : feed_numbers r ≡ feed_numbers q
   same_numbers = a.leaves.answers ∙ sym b.leaves.answers
 
   -- both are the definition's, each under identities of its own
@@ -128,9 +128,9 @@ module _ (table state work : List ℕ) (x : Term) (errors : List ErrorRecord) (r
       state_on (state_for table state₁) s (state_for table state₂) (state_back s (state_for table state₁) a.leaves.readings) b.leaves.readings
 
   -- where it is not refused both are states of the table
-  same_cells : (Refusing (feedNumbers r).answer → ⊥) → EqualButCells state₁ state₂
+  same_cells : (Refusing (feed_numbers r).answer → ⊥) → EqualButCells state₁ state₂
   same_cells h =
-      let k : Refusing (feedNumbers q).answer → ⊥ = λ z. h (subst (λ (m : FeedNumbers). Refusing m.answer) (sym same_numbers) z) in
+      let k : Refusing (feed_numbers q).answer → ⊥ = λ z. h (subst (λ (m : FeedNumbers). Refusing m.answer) (sym same_numbers) z) in
       let u = never_wrong_state.feed_leaves table state work x errors r state₁ work₁ errors₁ a (λ z. h (z.0, omega arith)) in
       let v = never_wrong_state.feed_leaves table state work x errors q state₂ work₂ errors₂ b (λ z. k (z.0, omega arith)) in
       equal_but_cells (table_of table).counts.states state state₁ state₂ u v (a.leaves.compact h) (b.leaves.compact k) a.leaves.spared b.leaves.spared

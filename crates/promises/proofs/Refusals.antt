@@ -9,7 +9,7 @@ use lib.ListN.{length, get_or, drop}
 use native.Mathlib.Omega.{arith}
 use Rattle.meaning.specs.Answers.{number}
 use Rattle.meaning.specs.Applying.{Applied, apply, joined, nothing_applied, one_result}
-use Rattle.meaning.specs.Basics.{both, either, Maybe, nothing, just, isNil}
+use Rattle.meaning.specs.Basics.{both, either, Maybe, nothing, just, is_nil}
 use Rattle.std.specs.Prelude.{if◌then◌else◌}
 use Rattle.meaning.specs.Chains.{record_at}
 use Rattle.meaning.specs.Feeding.{Planned, no_plan, plans, add_reading, add_plan, plan_all, apply_all, some_took, none_took, First, refuses, settles, must_recover, settle, first_of, first, finish, feed}
@@ -166,7 +166,7 @@ if_ranged false f g h k = k
 
 taken_ranged : (rs : List Reading) (n : ℕ) (s : Stage) → LateStage s → Ranged (term_taken rs n s).answer
 taken_ranged rs n (stopped k) h = late_ranged k h
-taken_ranged rs n (came o w c) h = at (isNil o.results)
+taken_ranged rs n (came o w c) h = at (is_nil o.results)
   where
     at : (b : Bool) → Ranged (if b then 12 else 0)
     at true = (inr (omega arith), omega arith)
@@ -177,7 +177,7 @@ recovered_ranged t x rs n (stopped k) h = late_ranged k h
 recovered_ranged t x rs n (came d w c) h =
     let d₀ : Applied = record { results = []; errors = d.errors; next = d.next } in
     let s : Stage = take_term t x (reverse d.results) d₀ w 0 in
-    if_ranged (isNil d.results) (none_recovered rs d w) (term_taken rs n s) (inr (omega arith), omega arith) (taken_ranged rs n s (take_stage t x (reverse d.results) d₀ w 0))
+    if_ranged (is_nil d.results) (none_recovered rs d w) (term_taken rs n s) (inr (omega arith), omega arith) (taken_ranged rs n s (take_stage t x (reverse d.results) d₀ w 0))
 
 abbrev LateFirst : First → Type 0
 LateFirst (refuses k) = From6To11 k
@@ -187,7 +187,7 @@ LateFirst (must_recover w) = Unit {0}
 first_late : (t : Table) (x : Term) (n : ℕ) (p : Planned) → LatePlans p → LateFirst (first_of t x n p)
 unfolding settle
 first_late t x n (no_plan k) h = h
-first_late t x n (plans ps left w c) h = at (isNil a.results) (either (not t.recovers) (not (isNil ps)))
+first_late t x n (plans ps left w c) h = at (is_nil a.results) (either (not t.recovers) (not (is_nil ps)))
   where
     a : Applied
     a = apply_all t x ps n

@@ -7,9 +7,9 @@ use lib.Dec.{ltb}
 use lib.ListN.{length, get_or, take, drop}
 use lib.Seq.{take-append_seam, drop-nil}
 use borrow.Author.Tests.{ltb-true}
-use Rattle.meaning.specs.Answers.{feedNumbers}
+use Rattle.meaning.specs.Answers.{feed_numbers}
 use Rattle.meaning.specs.Applying.{act_on, span_start, reduced, shifted, refused_action, unplanned, apply}
-use Rattle.meaning.specs.Basics.{Maybe, both, nothing, just, isNil, every, AllOf, find}
+use Rattle.meaning.specs.Basics.{Maybe, both, nothing, just, is_nil, every, AllOf, find}
 use Rattle.std.specs.Prelude.{if◌then◌else◌}
 use Rattle.meaning.specs.Bounds.{max_births}
 use Rattle.meaning.specs.Bytes.{u16_at, u32_at}
@@ -129,8 +129,8 @@ module _ (table : List ℕ) (ok : table_ok table ≡ true) (x : Term) where
   past_same nothing (just rs) errors n m a b h = absurd h
   past_same (just rs) nothing errors n m a b h = absurd h
   past_same (just rs) (just rs') errors n m a b h =
-      subst (λ (c : Bool). SameCall (past (just rs) [] n) (goes_by true table (just rs') x errors m c (wrong_term (table_of table).counts.classes x) (table_of table) rs')) (sym (nil_map (ren_reading h.rename) rs) ∙ sym (ap isNil h.same))
-      (at (isNil rs) (wrong_term (table_of table).counts.classes x))
+      subst (λ (c : Bool). SameCall (past (just rs) [] n) (goes_by true table (just rs') x errors m c (wrong_term (table_of table).counts.classes x) (table_of table) rs')) (sym (nil_map (ren_reading h.rename) rs) ∙ sym (ap is_nil h.same))
+      (at (is_nil rs) (wrong_term (table_of table).counts.classes x))
     where
       at : (c d : Bool) → SameCall (goes_by true table (just rs) x [] n c d (table_of table) rs) (goes_by true table (just rs') x errors m c d (table_of table) rs')
       at true d = record { says = refl; states = h; errors = refl }
@@ -171,7 +171,7 @@ module _ (table : List ℕ) (ok : table_ok table ≡ true) (x : Term) where
       left : SameState d.state (state_for table c.state')
       left = state_on d.state d'.state (state_for table c.state') same.states k.promise.leaves.readings
 
-      errors_are : take (feedNumbers c.answer).errors c.errors' ≡ d.errors
+      errors_are : take (feed_numbers c.answer).errors c.errors' ≡ d.errors
       errors_are = ap₂ {C = List ErrorRecord} (λ (m : FeedNumbers) l. take m.errors l) k.promise.leaves.answers k.promise.leaves.errors_are ∙ same.errors
 
 -- A run is ready if its table is right and the identities of each state that it feeds lie below those that the feed is given.

@@ -8,7 +8,7 @@ use mathlib.Core.Logic.{◌⊎◌, inl, inr}
 use lib.Dec.{eqb, leb}
 use lib.ListN.{length}
 use borrow.Author.Tests.{eqb-true, leb-true, leb-false}
-use Rattle.meaning.specs.Answers.{number, startNumber, feedNumbers}
+use Rattle.meaning.specs.Answers.{number, start_number, feed_numbers}
 use Rattle.meaning.specs.Basics.{both}
 use Rattle.meaning.specs.Calls.{State, StartCall, start_call, feed_call, StackCall}
 use Rattle.meaning.specs.Limits.{max_height, max_errors}
@@ -41,14 +41,14 @@ use Rattle.promises.proofs.SameCells.{used_same}
 use Rattle.promises.proofs.Sameness.{same_anew}
 
 -- A start answered 0 leaves one reading and one cell in use, whatever the buffer held.
-module _ (table state work : List ℕ) (r : StartAnswer) (state' work' : List ℕ) (a : StartPromise table state work r state' work') (z : startNumber r ≡ 0) where
+module _ (table state work : List ℕ) (r : StartAnswer) (state' work' : List ℕ) (a : StartPromise table state work r state' work') (z : start_number r ≡ 0) where
   start_long : length state ≡ state_len
   unfolding lengths_right
   start_long = at (start_case (lengths_right state work) table (state_for table state) 0)
     where
       at : StartStopped (lengths_right state work) table (state_for table state) 0 ⊎ StartWent (lengths_right state work) table (state_for table state) 0 → length state ≡ state_len
       at (inl s) =
-          let e : startNumber r ≡ number s.by = a.leaves.answers ∙ ap (λ (c : StartCall). c.answer) s.is in
+          let e : start_number r ≡ number s.by = a.leaves.answers ∙ ap (λ (c : StartCall). c.answer) s.is in
           let l = (number_range s.by).0 in
           absurd (omega arith)
       at (inr w) = eqb-true (length state) state_len (both_left (eqb (length state) state_len) (eqb (length work) work_len) w.lengths_hold)
@@ -71,7 +71,7 @@ module _ (table state work : List ℕ) (r : StartAnswer) (state' work' : List �
   start_readings = (a.leaves.started z).readings (table_of table) refl
 
 started_same : (table state work : List ℕ) (r : StartAnswer) (state' work' : List ℕ) (twin spare : List ℕ) (q : StartAnswer) (twin' spare' : List ℕ) →
-    StartPromise table state work r state' work' → StartPromise table twin spare q twin' spare' → startNumber r ≡ 0 → startNumber q ≡ 0 → SameButCells state' twin'
+    StartPromise table state work r state' work' → StartPromise table twin spare q twin' spare' → start_number r ≡ 0 → start_number q ≡ 0 → SameButCells state' twin'
 started_same table state work r state' work' twin spare q twin' spare' a b y z =
     same_anew table state' twin' (start_fits table state work r state' work' a y) (start_fits table twin spare q twin' spare' b z) same
     (start_long' table state work r state' work' a y ∙ sym (start_long' table twin spare q twin' spare' b z))
@@ -143,12 +143,12 @@ module _ (state twin : List ℕ) (h : SameButCells state twin) where
 
   -- A start.
   module _ (table work : List ℕ) (c d : Left (start table work)) (a : Answered (start table work) state c) (b : Answered (start table work) twin d) where
-    start_numbers : startNumber c.reply.answer ≡ startNumber d.reply.answer
+    start_numbers : start_number c.reply.answer ≡ start_number d.reply.answer
     start_numbers =
         a.leaves.answers ∙ start_same (lengths_right state work) table (state_for table state) (state_for table twin) 0
         ∙ ap (λ (l : Bool). (start_call l table (state_for table twin) 0).answer) (same_lengths work) ∙ sym b.leaves.answers
 
-    start_left : (n : ℕ) → startNumber c.reply.answer ≡ n → SameButCells c.state' d.state'
+    start_left : (n : ℕ) → start_number c.reply.answer ≡ n → SameButCells c.state' d.state'
     start_left zero e =
         started_same table state work c.reply.answer c.state' c.reply.work' twin work d.reply.answer d.state' d.reply.work' a b e (sym start_numbers ∙ e)
     start_left (suc n) e = let s = start_numbers in kept c.state' d.state' (a.leaves.refused (λ z. omega arith)) (b.leaves.refused (λ z. omega arith))
@@ -157,7 +157,7 @@ module _ (state twin : List ℕ) (h : SameButCells state twin) where
     start_step =
         let answer = start_known c.reply.answer d.reply.answer start_numbers in
         let area = a.cleared ∙ ap (λ (l : Bool). work_after l work) (same_lengths work) ∙ sym b.cleared in
-        record { replies = λ i. record { answer = answer i; work' = area i }; states = start_left (startNumber c.reply.answer) refl }
+        record { replies = λ i. record { answer = answer i; work' = area i }; states = start_left (start_number c.reply.answer) refl }
 
   -- A feed.
   module _ (table work : List ℕ) (x : Term) (errors : List ErrorRecord) (c d : Left (feed table work x errors)) (a : Answered (feed table work x errors) state c)
@@ -168,17 +168,17 @@ module _ (state twin : List ℕ) (h : SameButCells state twin) where
         (feed_same x errors (used_of state) (used_of twin) (feed_lengths state work (length errors)) table (state_for table state) (state_for table twin) (h.states table)
         (λ rs e. (found_holds table state rs e).facts.owned) (λ rs e. (found_holds table twin rs e).facts.owned))
 
-    feed_numbers : feedNumbers c.reply.answer ≡ feedNumbers d.reply.answer
-    feed_numbers = a.leaves.answers ∙ calls.says ∙ sym b.leaves.answers
+    feed_numbers_lem : feed_numbers c.reply.answer ≡ feed_numbers d.reply.answer
+    feed_numbers_lem = a.leaves.answers ∙ calls.says ∙ sym b.leaves.answers
 
     feed_lists : c.reply.errors' ≡ d.reply.errors'
     feed_lists = a.leaves.errors_are ∙ calls.errors ∙ sym b.leaves.errors_are
 
-    refused_too : Refusing (feedNumbers c.reply.answer).answer → Refusing (feedNumbers d.reply.answer).answer
-    refused_too = subst (λ (m : FeedNumbers). Refusing m.answer) feed_numbers
+    refused_too : Refusing (feed_numbers c.reply.answer).answer → Refusing (feed_numbers d.reply.answer).answer
+    refused_too = subst (λ (m : FeedNumbers). Refusing m.answer) feed_numbers_lem
 
-    refused_back : Refusing (feedNumbers d.reply.answer).answer → Refusing (feedNumbers c.reply.answer).answer
-    refused_back = subst (λ (m : FeedNumbers). Refusing m.answer) (sym feed_numbers)
+    refused_back : Refusing (feed_numbers d.reply.answer).answer → Refusing (feed_numbers c.reply.answer).answer
+    refused_back = subst (λ (m : FeedNumbers). Refusing m.answer) (sym feed_numbers_lem)
 
     -- both are the definition's, under identities of their own
     feed_states : SameState (state_for table c.state') (state_for table d.state')
@@ -188,7 +188,7 @@ module _ (state twin : List ℕ) (h : SameButCells state twin) where
         state_on (state_for table c.state') s (state_for table d.state') (state_back s (state_for table c.state') a.leaves.readings)
         (state_on s t (state_for table d.state') calls.states b.leaves.readings)
 
-    feed_left : Refusing (feedNumbers c.reply.answer).answer ⊎ (Refusing (feedNumbers c.reply.answer).answer → ⊥) → SameButCells c.state' d.state'
+    feed_left : Refusing (feed_numbers c.reply.answer).answer ⊎ (Refusing (feed_numbers c.reply.answer).answer → ⊥) → SameButCells c.state' d.state'
     feed_left (inl k) = kept c.state' d.state' (a.leaves.refused k) (b.leaves.refused (refused_too k))
     feed_left (inr k) =
         same_anew table c.state' d.state' fits fits' same long
@@ -210,10 +210,10 @@ module _ (state twin : List ℕ) (h : SameButCells state twin) where
 
     feed_step : Alike (feed table work x errors) c d
     feed_step =
-        let answer = feed_known c.reply.answer d.reply.answer feed_numbers in
+        let answer = feed_known c.reply.answer d.reply.answer feed_numbers_lem in
         let area = a.cleared ∙ ap (λ (l : Bool). work_after l work) (same_feed_lengths work (length errors)) ∙ sym b.cleared in
         let list = feed_lists in
-        record { replies = λ i. record { answer = answer i; work' = area i; errors' = list i }; states = feed_left (refusing? (feedNumbers c.reply.answer).answer) }
+        record { replies = λ i. record { answer = answer i; work' = area i; errors' = list i }; states = feed_left (refusing? (feed_numbers c.reply.answer).answer) }
 
   -- Any call.
   step : (q : Request) (c d : Left q) → Answered q state c → Answered q twin d → Alike q c d

@@ -1,6 +1,6 @@
 -- The promise of each call: one record, which determines the answer and what the lent bytes and lists hold afterwards.
 use Rattle.std.specs.Prelude.{◌≡◌, Bool, true, List, map, ℕ, ◌+◌, ◌-◌, ◌*◌, ◌≤◌, length}
-use Rattle.meaning.specs.Answers.{done, startNumber, feedNumbers, stackNumbers}
+use Rattle.meaning.specs.Answers.{done, start_number, feed_numbers, stack_numbers}
 use Rattle.meaning.specs.Basics.{nothing, just}
 use Rattle.meaning.specs.Calls.{State, StartCall, start_call, FeedCall, feed_call, takes_call, can_end_call, can_recover_call, StackCall, stack_call}
 use Rattle.meaning.specs.Identities.{ren_reading}
@@ -26,10 +26,10 @@ start_on table state work = start_call (lengths_right state work) table (state_f
 
 -- What a start answers and leaves where its definition comes to this call: what is refused leaves the state byte for byte as it was.
 pub record StartLeaves (table state : List ℕ) (call : StartCall) (r : StartAnswer) (state' : List ℕ) : Type 0 where
-  pub answers : startNumber r ≡ call.answer
+  pub answers : start_number r ≡ call.answer
   pub readings : state_for table state' ≡ call.state
-  pub refused : (startNumber r ≡ done → ⊥) → state' ≡ state
-  pub started : startNumber r ≡ done → Started (state_no (start_state (table_of table))) state state'
+  pub refused : (start_number r ≡ done → ⊥) → state' ≡ state
+  pub started : start_number r ≡ done → Started (state_no (start_state (table_of table))) state state'
 
 pub record StartPromise (table state work : List ℕ) (r : StartAnswer) (state' work' : List ℕ) : Type 0 where
   pub leaves : StartLeaves table state (start_on table state work) r state'
@@ -54,7 +54,7 @@ abbrev pub stack_on : (lengths : Bool) → (table state : List ℕ) → (i : ℕ
 stack_on lengths table state i ys = stack_call lengths table (state_for table state) i ys
 
 pub record StackPromise (table state : List ℕ) (i : ℕ) (entries : List SeenEntry) (r : StackAnswer) (entries' : List SeenEntry) : Type 0 where
-  pub answers : stackNumbers r ≡ (stack_on (lists_right state (length entries)) table state i entries).says
+  pub answers : stack_numbers r ≡ (stack_on (lists_right state (length entries)) table state i entries).says
   pub entries_are : entries' ≡ (stack_on (lists_right state (length entries)) table state i entries).entries
 
 -- Feed. The readings of the state afterwards are those of the definition, in order, under other identities, and no two identities that occur become one: marks, heights, states,
@@ -78,10 +78,10 @@ pub record Spared (state state' : List ℕ) : Type 0 where
 
 -- What a feed answers and leaves where its definition comes to this call. Answers 1 to 11 leave the state byte for byte as it was; after 0 and 12 every cell in use is held by a reading that is left.
 pub record FeedLeaves (table state : List ℕ) (call : FeedCall) (r : FeedAnswer) (state' : List ℕ) (errors' : List ErrorRecord) : Type 0 where
-  pub answers : feedNumbers r ≡ call.says
+  pub answers : feed_numbers r ≡ call.says
   pub readings : SameState call.state (state_for table state')
-  pub refused : (1 ≤ (feedNumbers r).answer) × ((feedNumbers r).answer ≤ 11) → state' ≡ state
-  pub compact : ((1 ≤ (feedNumbers r).answer) × ((feedNumbers r).answer ≤ 11) → ⊥) → Compact state'
+  pub refused : (1 ≤ (feed_numbers r).answer) × ((feed_numbers r).answer ≤ 11) → state' ≡ state
+  pub compact : ((1 ≤ (feed_numbers r).answer) × ((feed_numbers r).answer ≤ 11) → ⊥) → Compact state'
   pub spared : Spared state state'
   pub errors_are : errors' ≡ call.errors
 

@@ -1,6 +1,6 @@
 -- What is claimed to follow from the promises alone, as definitions. Theorems: proofs/, each named here.
 use Rattle.std.specs.Prelude.{◌≡◌, Bool, true, false, List, map, ℕ, ◌≤◌, length, take, drop}
-use Rattle.meaning.specs.Answers.{done, startNumber, feedNumbers, questionNumbers, stackNumbers}
+use Rattle.meaning.specs.Answers.{done, start_number, feed_numbers, question_numbers, stack_numbers}
 use Rattle.meaning.specs.Basics.{nothing, just}
 use Rattle.meaning.specs.Bounds.{max_walked_by_feed}
 use Rattle.meaning.specs.Calls.{State}
@@ -40,8 +40,8 @@ pub record SameOutcome (table : List ℕ) (r q : FeedAnswer) (state₁ state₂ 
   pub answer : r ≡ q
   pub states : SameState (state_for table state₁) (state_for table state₂)
   pub readings : plain_state (state_for table state₁) ≡ plain_state (state_for table state₂)
-  pub refused : Refusing (feedNumbers r).answer → state₁ ≡ state₂
-  pub taken : (Refusing (feedNumbers r).answer → ⊥) → EqualButCells state₁ state₂
+  pub refused : Refusing (feed_numbers r).answer → state₁ ≡ state₂
+  pub taken : (Refusing (feed_numbers r).answer → ⊥) → EqualButCells state₁ state₂
   pub work : work₁ ≡ work₂
   pub errors : errors₁ ≡ errors₂
 
@@ -53,33 +53,33 @@ pub record WorkLeft (answer : ℕ) (work work' : List ℕ) : Type 0 where
   pub zeroed : (answer ≡ 1 → ⊥) → work' ≡ zeros (length work)
 
 pub record StartKeeps (state work : List ℕ) (r : StartAnswer) (state' work' : List ℕ) : Type 0 where
-  pub answer : startNumber r ≤ 2
-  pub state_kept : Refusing (startNumber r) → state' ≡ state
+  pub answer : start_number r ≤ 2
+  pub state_kept : Refusing (start_number r) → state' ≡ state
   pub state_long : length state' ≡ length state
-  pub work_left : WorkLeft (startNumber r) work work'
+  pub work_left : WorkLeft (start_number r) work work'
 
 pub record FeedKeeps (state work : List ℕ) (errors : List ErrorRecord) (r : FeedAnswer) (state' work' : List ℕ) (errors' : List ErrorRecord) : Type 0 where
-  pub answer : (feedNumbers r).answer ≤ 12
-  pub state_kept : Refusing (feedNumbers r).answer → state' ≡ state
+  pub answer : (feed_numbers r).answer ≤ 12
+  pub state_kept : Refusing (feed_numbers r).answer → state' ≡ state
   pub state_long : length state' ≡ length state
-  pub errors_kept : Refusing (feedNumbers r).answer → errors' ≡ errors
+  pub errors_kept : Refusing (feed_numbers r).answer → errors' ≡ errors
   pub errors_long : length errors' ≡ length errors
-  pub errors_past : drop (feedNumbers r).errors errors' ≡ drop (feedNumbers r).errors errors
-  pub errors_few : (feedNumbers r).errors ≤ max_errors
-  pub walked_few : (feedNumbers r).walked ≤ max_walked_by_feed
-  pub work_left : WorkLeft (feedNumbers r).answer work work'
+  pub errors_past : drop (feed_numbers r).errors errors' ≡ drop (feed_numbers r).errors errors
+  pub errors_few : (feed_numbers r).errors ≤ max_errors
+  pub walked_few : (feed_numbers r).walked ≤ max_walked_by_feed
+  pub work_left : WorkLeft (feed_numbers r).answer work work'
 
 -- A question that finds no reading left says no: 4 never comes, nor 11 or 12.
 pub record QuestionKeeps (work : List ℕ) (r : QuestionAnswer) (work' : List ℕ) : Type 0 where
-  pub answer : (questionNumbers r).answer ≤ 10
-  pub answer_not_4 : (questionNumbers r).answer ≡ 4 → ⊥
-  pub work_left : WorkLeft (questionNumbers r).answer work work'
+  pub answer : (question_numbers r).answer ≤ 10
+  pub answer_not_4 : (question_numbers r).answer ≡ 4 → ⊥
+  pub work_left : WorkLeft (question_numbers r).answer work work'
 
 pub record StackKeeps (entries : List SeenEntry) (r : StackAnswer) (entries' : List SeenEntry) : Type 0 where
-  pub answer : (stackNumbers r).answer ≤ 5
-  pub entries_kept : Refusing (stackNumbers r).answer → entries' ≡ entries
+  pub answer : (stack_numbers r).answer ≤ 5
+  pub entries_kept : Refusing (stack_numbers r).answer → entries' ≡ entries
   pub entries_long : length entries' ≡ length entries
-  pub entries_past : drop (stackNumbers r).height entries' ≡ drop (stackNumbers r).height entries
+  pub entries_past : drop (stack_numbers r).height entries' ≡ drop (stack_numbers r).height entries
 
 -- Of all calls. Table, and for questions and reading out also the state, are lent to be read only: no promise has them afterwards.
 pub record Demand1 : Type 0 where
@@ -104,27 +104,27 @@ PassedCheck n = (1 ≤ n) × (n ≤ 3) → ⊥
 -- A start answered 0 and every call that passed the check leave such a buffer, and no call answers 3 for one.
 -- The questions and reading out leave the state as it was: their promises have none afterwards.
 pub record NeverWrongState : Type 0 where
-  pub start_leaves : (table state work : List ℕ) (r : StartAnswer) (state' work' : List ℕ) → StartPromise table state work r state' work' → startNumber r ≡ done → Fits table state'
+  pub start_leaves : (table state work : List ℕ) (r : StartAnswer) (state' work' : List ℕ) → StartPromise table state work r state' work' → start_number r ≡ done → Fits table state'
   pub feed_leaves : (table state work : List ℕ) (x : Term) (errors : List ErrorRecord) (r : FeedAnswer) (state' work' : List ℕ) (errors' : List ErrorRecord) →
-      FeedPromise table state work x errors r state' work' errors' → PassedCheck (feedNumbers r).answer → Fits table state'
+      FeedPromise table state work x errors r state' work' errors' → PassedCheck (feed_numbers r).answer → Fits table state'
   pub takes_leaves : (table state work : List ℕ) (class : ℕ) (r : QuestionAnswer) (work' : List ℕ) →
-      QuestionPromise (takes_on table state class) state work r work' → PassedCheck (questionNumbers r).answer → Fits table state
+      QuestionPromise (takes_on table state class) state work r work' → PassedCheck (question_numbers r).answer → Fits table state
   pub can_end_leaves : (table state work : List ℕ) (r : QuestionAnswer) (work' : List ℕ) →
-      QuestionPromise (can_end_on table state) state work r work' → PassedCheck (questionNumbers r).answer → Fits table state
+      QuestionPromise (can_end_on table state) state work r work' → PassedCheck (question_numbers r).answer → Fits table state
   pub can_recover_leaves : (table state work : List ℕ) (r : QuestionAnswer) (work' : List ℕ) →
-      QuestionPromise (can_recover_on table state) state work r work' → PassedCheck (questionNumbers r).answer → Fits table state
+      QuestionPromise (can_recover_on table state) state work r work' → PassedCheck (question_numbers r).answer → Fits table state
   pub stack_leaves : (table state : List ℕ) (i : ℕ) (entries : List SeenEntry) (r : StackAnswer) (entries' : List SeenEntry) →
-      StackPromise table state i entries r entries' → PassedCheck (stackNumbers r).answer → Fits table state
+      StackPromise table state i entries r entries' → PassedCheck (stack_numbers r).answer → Fits table state
   pub feed_takes : (table state work : List ℕ) (x : Term) (errors : List ErrorRecord) (r : FeedAnswer) (state' work' : List ℕ) (errors' : List ErrorRecord) →
-      FeedPromise table state work x errors r state' work' errors' → Fits table state → ((feedNumbers r).answer ≡ 3 → ⊥) × Fits table state'
+      FeedPromise table state work x errors r state' work' errors' → Fits table state → ((feed_numbers r).answer ≡ 3 → ⊥) × Fits table state'
   pub takes_takes : (table state work : List ℕ) (class : ℕ) (r : QuestionAnswer) (work' : List ℕ) →
-      QuestionPromise (takes_on table state class) state work r work' → Fits table state → (questionNumbers r).answer ≡ 3 → ⊥
+      QuestionPromise (takes_on table state class) state work r work' → Fits table state → (question_numbers r).answer ≡ 3 → ⊥
   pub can_end_takes : (table state work : List ℕ) (r : QuestionAnswer) (work' : List ℕ) →
-      QuestionPromise (can_end_on table state) state work r work' → Fits table state → (questionNumbers r).answer ≡ 3 → ⊥
+      QuestionPromise (can_end_on table state) state work r work' → Fits table state → (question_numbers r).answer ≡ 3 → ⊥
   pub can_recover_takes : (table state work : List ℕ) (r : QuestionAnswer) (work' : List ℕ) →
-      QuestionPromise (can_recover_on table state) state work r work' → Fits table state → (questionNumbers r).answer ≡ 3 → ⊥
+      QuestionPromise (can_recover_on table state) state work r work' → Fits table state → (question_numbers r).answer ≡ 3 → ⊥
   pub stack_takes : (table state : List ℕ) (i : ℕ) (entries : List SeenEntry) (r : StackAnswer) (entries' : List SeenEntry) →
-      StackPromise table state i entries r entries' → Fits table state → (stackNumbers r).answer ≡ 3 → ⊥
+      StackPromise table state i entries r entries' → Fits table state → (stack_numbers r).answer ≡ 3 → ⊥
 
 -- The third demand (proofs/Demand3), in meaning's words.
 
@@ -132,10 +132,10 @@ pub record NeverWrongState : Type 0 where
 abbrev pub fed_by : FeedAnswer → (state' : List ℕ) → (errors' : List ErrorRecord) → Fed
 fed_by r state' errors' =
     record {
-      answer = (feedNumbers r).answer;
+      answer = (feed_numbers r).answer;
       readings = readings_of state';
-      errors = take (feedNumbers r).errors errors';
-      walked = (feedNumbers r).walked;
+      errors = take (feed_numbers r).errors errors';
+      walked = (feed_numbers r).walked;
       next = used_of state';
     }
 
@@ -149,9 +149,9 @@ pub record Demand3 : Type 0 where
       (twin spare : List ℕ) (others : List ErrorRecord) (q : FeedAnswer) (twin' spare' : List ℕ) (others' : List ErrorRecord) →
       FeedPromise table state work x errors r state' work' errors' → FeedPromise table twin spare x others q twin' spare' others' →
       Same (map plain (readings_of state)) (map plain (readings_of twin)) →
-      (Refusing (feedNumbers r).answer → ⊥) → Recovers table state x ≡ false → PassedCheck (feedNumbers q).answer →
+      (Refusing (feed_numbers r).answer → ⊥) → Recovers table state x ≡ false → PassedCheck (feed_numbers q).answer →
       (Recovers table twin x ≡ false) × Alike (fed_by r state' errors') (fed_by q twin' others')
   -- Answered 0 with no recovery: exactly one reading for each chain of reductions and a shift whose actions all succeed.
   pub chains : (table : List ℕ) (x : Term) (state work : List ℕ) (errors : List ErrorRecord) (r : FeedAnswer) (state' work' : List ℕ) (errors' : List ErrorRecord) →
-      FeedPromise table state work x errors r state' work' errors' → (feedNumbers r).answer ≡ done → Recovers table state x ≡ false →
+      FeedPromise table state work x errors r state' work' errors' → (feed_numbers r).answer ≡ done → Recovers table state x ≡ false →
       ByChains (table_of table) x (readings_of state) (fed_by r state' errors')

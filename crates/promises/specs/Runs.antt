@@ -1,6 +1,6 @@
 -- The runs with known outcome as sequences of calls: what it is that calls make a run, what is seen of the last one, and the claim. Theorem: proofs/Runs.
 use Rattle.std.specs.Prelude.{◌≡◌, List, [], ◌∷◌, ℕ, length, take}
-use Rattle.meaning.specs.Answers.{startNumber, feedNumbers}
+use Rattle.meaning.specs.Answers.{start_number, feed_numbers}
 use Rattle.meaning.specs.Basics.{AllOf}
 use Rattle.meaning.specs.KnownRuns.{Outcome, Run, seen_state, known_runs}
 use Rattle.meaning.specs.Limits.{max_errors}
@@ -48,11 +48,11 @@ pub record Calls (run : Run) : Type 0 where
 
 -- What is seen of a call: its numbers, the readings that it left, and the error list up to the count.
 abbrev pub seen_start : (table : List ℕ) → StartAnswer → (state' : List ℕ) → Outcome
-seen_start table r state' = record { says = record { answer = startNumber r; errors = 0; walked = 0 }; readings = seen_state (state_for table state'); errors = [] }
+seen_start table r state' = record { says = record { answer = start_number r; errors = 0; walked = 0 }; readings = seen_state (state_for table state'); errors = [] }
 
 abbrev pub seen_feed : (table : List ℕ) → Feeding → Outcome
 seen_feed table c =
-    record { says = feedNumbers c.answer; readings = seen_state (state_for table c.state'); errors = take (feedNumbers c.answer).errors c.errors' }
+    record { says = feed_numbers c.answer; readings = seen_state (state_for table c.state'); errors = take (feed_numbers c.answer).errors c.errors' }
 
 -- of the last call
 unfoldable pub last_seen : (table : List ℕ) → Outcome → List Feeding → Outcome

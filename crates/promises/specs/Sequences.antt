@@ -1,6 +1,6 @@
 -- Runs of calls of any kinds: one caller, on two states that are the same but for cells, gets the same replies at every call, and the states stay the same. Theorem: proofs/Sequences.
 use Rattle.std.specs.Prelude.{◌≡◌, List, ℕ, length}
-use Rattle.meaning.specs.Answers.{done, startNumber}
+use Rattle.meaning.specs.Answers.{done, start_number}
 use Rattle.meaning.specs.declared.Entry.{Entry as SeenEntry}
 use Rattle.meaning.specs.declared.ErrorRecord.{ErrorRecord}
 use Rattle.meaning.specs.declared.FeedAnswer.{FeedAnswer}
@@ -110,4 +110,4 @@ pub record RunDetermined : Type 0 where
   pub from_one : (state : List ℕ) → SameButCells state state
   -- and of two that begin with a start answered 0, whatever the buffers held.
   pub from_start : (table state work : List ℕ) (r : StartAnswer) (state' work' : List ℕ) (twin spare : List ℕ) (q : StartAnswer) (twin' spare' : List ℕ) →
-      StartPromise table state work r state' work' → StartPromise table twin spare q twin' spare' → startNumber r ≡ done → startNumber q ≡ done → SameButCells state' twin'
+      StartPromise table state work r state' work' → StartPromise table twin spare q twin' spare' → start_number r ≡ done → start_number q ≡ done → SameButCells state' twin'

@@ -6,9 +6,9 @@ use mathlib.Core.Bool.{Bool, true, false, not}
 use mathlib.Core.List.{List, ◌++◌, map}
 use lib.Dec.{eqb}
 use borrow.Author.Tests.{eq-eqb, ne_eqb}
-use Rattle.meaning.specs.Answers.{done, notTaken}
+use Rattle.meaning.specs.Answers.{done, not_taken}
 use Rattle.meaning.specs.Applying.{unplanned}
-use Rattle.meaning.specs.Basics.{isNil}
+use Rattle.meaning.specs.Basics.{is_nil}
 use Rattle.std.specs.Prelude.{if◌then◌else◌}
 use Rattle.meaning.specs.Outcome.{Fed as MeantFed}
 use Rattle.meaning.specs.Readings.{Reading}
@@ -36,7 +36,7 @@ use Rattle.recovery.specs.declared.Stage.{Stage}
 use Rattle.recovery.specs.declared.Stage.TheVariants.{Stopped, Came}
 
 -- whether a list has readings, by its count
-nil_is : (w : List ℕ) (at k : ℕ) → isNil (results_of w at k) ≡ eqb k 0
+nil_is : (w : List ℕ) (at k : ℕ) → is_nil (results_of w at k) ≡ eqb k 0
 unfolding readings_from
 nil_is w at zero = refl
 nil_is w at (suc k) = sym (ne_eqb (suc k) 0 (λ z. omega arith))
@@ -105,11 +105,11 @@ module _ (s : List ℕ) (view : View) (w : List ℕ) (so : SoFar) (y : SecondRea
         subst (λ (m : Meant). Holds w' (ended so') (term_taken rs next m)) (sym g.is)
         (record { answer = answer_is; readings = refl; errors = refl; walked = refl; few = omega arith; area = g.further.area })
       where
-        by : (b : Bool) → (if b then notTaken else done) ≡ (if not b then done else notTaken)
+        by : (b : Bool) → (if b then not_taken else done) ≡ (if not b then done else not_taken)
         by true = refl
         by false = refl
 
-        answer_is : (if isNil (results_of w' 41920 so'.counts.results) then notTaken else done) ≡ (if not (eqb so'.counts.results 0) then done else notTaken)
+        answer_is : (if is_nil (results_of w' 41920 so'.counts.results) then not_taken else done) ≡ (if not (eqb so'.counts.results 0) then done else not_taken)
         answer_is = rw (nil_is w' 41920 so'.counts.results) (by (eqb so'.counts.results 0))
 
 -- Which end it is.

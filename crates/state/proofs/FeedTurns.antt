@@ -7,7 +7,7 @@ use mathlib.Core.Logic.{◌⊎◌, inl, inr}
 use mathlib.Core.List.{List, [], ◌∷◌, ◌++◌, reverse, append_assoc, append-nil}
 use lib.Dec.{ltb, T, ltb→lt}
 use Rattle.meaning.specs.Applying.{Applied, apply, joined, nothing_applied, one_result}
-use Rattle.meaning.specs.Basics.{either, isNil, nothing, just}
+use Rattle.meaning.specs.Basics.{either, is_nil, nothing, just}
 use Rattle.std.specs.Prelude.{if◌then◌else◌}
 use Rattle.meaning.specs.Feeding.{Planned, no_plan, plans, add_reading, add_plan, plan_all, apply_all, First, refuses, settles, must_recover, some_took, none_took, settle, first_of, first, finish, feed}
 use Rattle.meaning.specs.Outcome.{Fed, refusal}
@@ -46,7 +46,7 @@ no_more t x r c tree k c' e q =
 module _ (t : Table) (x : Term) where
   record PassLeads (rs : List Reading) (c : ℕ) (ps : List (Reading × Walk)) (c' : ℕ) : Type 0 where
     lead : (n : ℕ) (more : List Turn) → born_up_to (pass_turns t x rs ++ more) n c ≡ born_up_to more (apply_all t x ps n).next c'
-    none : isNil ps ≡ true → c' ≡ c
+    none : is_nil ps ≡ true → c' ≡ c
 
   abbrev PassBorn : List Reading → (c : ℕ) → Planned → Type 0
   PassBorn rs c (no_plan k) = Unit {0}
@@ -75,7 +75,7 @@ module _ (t : Table) (x : Term) where
       at (refused k) e go = tt
       at (walked tree k c') e go = add_born r rs c tree k c' e (plan_all t x.class rs c') (go c')
 
-  none_born : (ps : List (Reading × Walk)) (n : ℕ) → isNil ps ≡ true → (apply_all t x ps n).next ≡ n
+  none_born : (ps : List (Reading × Walk)) (n : ℕ) → is_nil ps ≡ true → (apply_all t x ps n).next ≡ n
   unfolding apply_all
   none_born [] n e = refl
   none_born (p ∷ ps) n e = no_false e
@@ -195,7 +195,7 @@ module _ (t : Table) (x : Term) (rs : List Reading) (used : ℕ) where
   looked_born : (turns : List Turn) (s : Stage) → LeadsTo turns used 0 s → Bears (after_recovery t x rs used s) (born_up_to (again_turns t x s) (born_up_to turns used 0) 0)
   unfolding born_up_to
   looked_born turns (stopped k) h = inl (k, refl)
-  looked_born turns (came d w c) h = subst (λ (m : ℕ). Bears (after_recovery t x rs used (came d w c)) (born_up_to (again_turns t x (came d w c)) m 0)) (sym (leads_end turns used 0 d.next c h)) (by (isNil d.results))
+  looked_born turns (came d w c) h = subst (λ (m : ℕ). Bears (after_recovery t x rs used (came d w c)) (born_up_to (again_turns t x (came d w c)) m 0)) (sym (leads_end turns used 0 d.next c h)) (by (is_nil d.results))
     where
       second : Applied
       second = record { results = []; errors = d.errors; next = d.next }
@@ -213,7 +213,7 @@ module _ (t : Table) (x : Term) (rs : List Reading) (used : ℕ) where
   settled_born : (p : Planned) → PassBorn t x (reverse rs) 0 p → FirstBears (first_of t x used p)
   unfolding settle
   settled_born (no_plan k) h = tt
-  settled_born (plans ps left w c) h = by (not (isNil (apply_all t x ps used).results)) (either (not t.recovers) (not (isNil ps))) refl
+  settled_born (plans ps left w c) h = by (not (is_nil (apply_all t x ps used).results)) (either (not t.recovers) (not (is_nil ps))) refl
     where
       a : Applied
       a = apply_all t x ps used
@@ -221,11 +221,11 @@ module _ (t : Table) (x : Term) (rs : List Reading) (used : ℕ) where
       bears : a.next ≡ born_up_to (pass_turns t x (reverse rs)) used 0
       bears = sym (leads_end (pass_turns t x (reverse rs)) used 0 a.next c (h.lead used))
 
-      by : (b d : Bool) → either (not t.recovers) (not (isNil ps)) ≡ d → FirstBears (if b then settles (some_took left w a) else if d then settles (none_took left w a) else must_recover w)
+      by : (b d : Bool) → either (not t.recovers) (not (is_nil ps)) ≡ d → FirstBears (if b then settles (some_took left w a) else if d then settles (none_took left w a) else must_recover w)
       by true d q = bears
       by false true q = bears
       by false false q =
-          let nil = not_no (isNil ps) (either_false (not t.recovers) (not (isNil ps)) q).1 in
+          let nil = not_no (is_nil ps) (either_false (not t.recovers) (not (is_nil ps)) q).1 in
           let same = none_born t x ps used nil in let none = h.none nil in
           λ more. h.lead used more ∙ (λ i. born_up_to more (same i) (none i))
 

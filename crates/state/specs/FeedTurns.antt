@@ -1,7 +1,7 @@
 -- The turns of a feed, in the shape of the rules: which readings are planned for which terms, in which order, and which stay. A refusal ends them where it is met (Births).
 use Rattle.std.specs.Prelude.{ℕ, ◌+◌, ◌≤◌, ◌≡◌, ◌⊎◌, List, [], ◌∷◌, ◌++◌, map, reverse}
 use Rattle.meaning.specs.Applying.{Applied, joined, nothing_applied}
-use Rattle.meaning.specs.Basics.{isNil}
+use Rattle.meaning.specs.Basics.{is_nil}
 use Rattle.std.specs.Prelude.{if◌then◌else◌}
 use Rattle.meaning.specs.Feeding.{First, refuses, settles, must_recover, first, feed}
 use Rattle.meaning.specs.Limits.{max_readings}
@@ -55,7 +55,7 @@ first_turns t x rs used (must_recover w) = pass_turns t x (reverse rs) ++ all_tu
 
 abbrev pub again_turns : Table → Term → Stage → List Turn
 again_turns t x (stopped k) = []
-again_turns t x (came d w c) = if isNil d.results then [] else take_turns t x (reverse d.results) 0
+again_turns t x (came d w c) = if is_nil d.results then [] else take_turns t x (reverse d.results) 0
 
 abbrev pub second_turns : Table → Term → List Reading → (used : ℕ) → First → List Turn
 second_turns t x rs used (refuses k) = []

@@ -14,7 +14,7 @@ use Rattle.meaning.specs.TableRight.{counts_right, frame_right, picks, kind_righ
 use Rattle.meaning.specs.declared.Counts.{Counts}
 use Rattle.meaning.specs.declared.Rule.{Rule}
 use Rattle.meaning.specs.declared.View.{View}
-use Rattle.table.specs.Answers.{Belongs, actionAnswer, gotoAnswer}
+use Rattle.table.specs.Answers.{Belongs, action_answer, goto_answer}
 use Rattle.table.specs.Bounds.{CountsWithin, ActionWithin, RuleWithin, GotoWithin}
 use Rattle.table.specs.declared.Action.{Action}
 use Rattle.meaning.proofs.Booleans.{both_left, both_right}
@@ -71,8 +71,8 @@ four_rules ks (suc (suc zero)) h = refl
 four_rules ks (suc (suc (suc zero))) h = refl
 four_rules ks (suc (suc (suc (suc i)))) h = absurd (omega arith)
 
-pub answer_rule : (a : ActionRecord) (i : ℕ) → i < 4 → get_or (actionAnswer a).rules i 0 ≡ get_or a.rules i 0
-unfolding actionAnswer
+pub answer_rule : (a : ActionRecord) (i : ℕ) → i < 4 → get_or (action_answer a).rules i 0 ≡ get_or a.rules i 0
+unfolding action_answer
 answer_rule a i h = four_rules a.rules i h
 
 -- the first of the array, as many as the count, are the record's rules
@@ -88,8 +88,8 @@ target_below : (c : Counts) (m : Maybe ℕ) → 0 < c.states → shift_right c m
 target_below c nothing h e = h
 target_below c (just to) h e = ltb-true to c.states e
 
-action_within : (c : Counts) → 0 < c.states → (a : ActionRecord) → action_right c a ≡ true → ActionWithin c (actionAnswer a)
-unfolding action_right actionAnswer
+action_within : (c : Counts) → 0 < c.states → (a : ActionRecord) → action_right c a ≡ true → ActionWithin c (action_answer a)
+unfolding action_right action_answer
 action_within c h a e =
     let more = both_right (both (ltb a.state c.states) (ltb a.class c.classes)) _ e in
     let named = both_left (both (shift_right c a.shift) (rules_below c a.rules)) _ more in
@@ -100,17 +100,17 @@ action_within c h a e =
       rules = λ i l. rw (four_rules a.rules i (omega arith)) (below_at c a.rules i (both_right (shift_right c a.shift) _ named) l);
     }
 
-none_within : (c : Counts) → 0 < c.states → ActionWithin c (actionAnswer no_record)
-unfolding actionAnswer
+none_within : (c : Counts) → 0 < c.states → ActionWithin c (action_answer no_record)
+unfolding action_answer
 none_within c h = record { target = h; count = omega arith; rules = λ i l. absurd (omega arith) }
 
 -- A goto.
-goto_within : (c : Counts) (to : ℕ) → to < c.states → GotoWithin c (gotoAnswer (just to))
-unfolding gotoAnswer
+goto_within : (c : Counts) (to : ℕ) → to < c.states → GotoWithin c (goto_answer (just to))
+unfolding goto_answer
 goto_within c to h = record { target = λ x e. let q : state_no to ≡ state_no x = cc in let f : to ≡ x = ap (λ n. n.0) q in omega arith }
 
-nothing_within : (c : Counts) → GotoWithin c (gotoAnswer nothing)
-unfolding gotoAnswer
+nothing_within : (c : Counts) → GotoWithin c (goto_answer nothing)
+unfolding goto_answer
 nothing_within c = record { target = λ x e. let z : ◌≡◌ {A = ℕ} 0 1 = cc in absurd (omega arith) }
 
 -- A rule.
@@ -163,28 +163,28 @@ module _ (s : List ℕ) (v : View) (B : Belongs s v) where
       subst (λ (w : View). RuleWithin v.counts (get_or (rules_from w.counts.rules s w.rules.at) k no_rule)) B.is
       (rule_within v.counts _ (every_at v.counts s v.counts.rules v.rules.at k (both_left _ _ (checked_content s v B)) h))
 
-  pub action_found_within : (a b : ℕ) → ActionWithin v.counts (actionAnswer (action_of (table_of s) a b))
+  pub action_found_within : (a b : ℕ) → ActionWithin v.counts (action_answer (action_of (table_of s) a b))
   unfolding action_of table_of actions_of field_right action_format
   action_found_within a b =
       let some : 0 < v.counts.states = counts_found_within.some_state in
-      subst (λ (w : View). ActionWithin v.counts (actionAnswer (find (λ x. is_pair a b x.state x.class) (λ x. x) no_record (actions_of s w)))) B.is
-      (find_holds (λ x. ActionWithin v.counts (actionAnswer x)) (λ x. is_pair a b x.state x.class) (action_right v.counts) (λ x. x) no_record
+      subst (λ (w : View). ActionWithin v.counts (action_answer (find (λ x. is_pair a b x.state x.class) (λ x. x) no_record (actions_of s w)))) B.is
+      (find_holds (λ x. ActionWithin v.counts (action_answer x)) (λ x. is_pair a b x.state x.class) (action_right v.counts) (λ x. x) no_record
       (none_within v.counts some) (action_within v.counts some) (actions_of s v) (all_right (action_format s v.counts) v.actions.end 0 _ (checked_actions s v B).right))
 
-  pub goto_found_within : (a b : ℕ) → GotoWithin v.counts (gotoAnswer (goto_of (table_of s) a b))
+  pub goto_found_within : (a b : ℕ) → GotoWithin v.counts (goto_answer (goto_of (table_of s) a b))
   unfolding goto_of table_of gotos_of field_right goto_format goto_right
   goto_found_within a b =
       let c : Counts = v.counts in
-      subst (λ (w : View). GotoWithin c (gotoAnswer (find (λ x. is_pair a b x.state x.nonterminal) (λ x. just x.target) nothing (gotos_of s w)))) B.is
-      (find_holds (λ x. GotoWithin c (gotoAnswer x)) (λ x. is_pair a b x.state x.nonterminal) (goto_right c) (λ x. just x.target) nothing
+      subst (λ (w : View). GotoWithin c (goto_answer (find (λ x. is_pair a b x.state x.nonterminal) (λ x. just x.target) nothing (gotos_of s w)))) B.is
+      (find_holds (λ x. GotoWithin c (goto_answer x)) (λ x. is_pair a b x.state x.nonterminal) (goto_right c) (λ x. just x.target) nothing
       (nothing_within c) (λ g e. goto_within c g.target (ltb-true _ c.states (both_right (ltb g.nonterminal c.nonterminals) _ (both_right (ltb g.state c.states) _ e)))) (gotos_of s v) (all_right (goto_format s c) v.gotos.end 0 _ (checked_gotos s v B).right))
 
-  pub answer_rules : (a b : ℕ) (r : Action) → r ≡ actionAnswer (action_of (table_of s) a b) → take r.count r.rules ≡ (action_of (table_of s) a b).rules
-  unfolding actionAnswer
+  pub answer_rules : (a b : ℕ) (r : Action) → r ≡ action_answer (action_of (table_of s) a b) → take r.count r.rules ≡ (action_of (table_of s) a b).rules
+  unfolding action_answer
   answer_rules a b r e =
       let few : length (action_of (table_of s) a b).rules ≤ 4 = (action_found_within a b).count in
       rw e (first_rules (action_of (table_of s) a b).rules few)
 
   pub start_state_below : start_state (table_of s) < v.counts.states
-  unfolding start_state actionAnswer
+  unfolding start_state action_answer
   start_state_below = (action_found_within 0 2).target

@@ -14,7 +14,7 @@ use Rattle.meaning.specs.TableFile.{field_at, view_of, rules_from, no_rule, no_r
 use Rattle.meaning.specs.TableRight.{counts_right, head_at, front_right, middle_right, back_right, shape_right, frame_right, rule_right, action_format, goto_format, field_right, content_right, shifts, table_ok}
 use Rattle.meaning.specs.declared.Rule.{Rule}
 use Rattle.meaning.specs.declared.View.{View}
-use Rattle.table.specs.Answers.{check_of, Belongs, actionAnswer, gotoAnswer}
+use Rattle.table.specs.Answers.{check_of, Belongs, action_answer, goto_answer}
 use Rattle.table.specs.Records.{Framed, Sound, seek}
 use Rattle.table.specs.declared.Action.{Action}
 use Rattle.table.specs.declared.Goto.{Goto}
@@ -24,16 +24,16 @@ use Rattle.meaning.proofs.Booleans.{both_left, both_right}
 
 -- what find_action and find_goto give
 abbrev pub action_in : List ℕ → View → (state class : ℕ) → Action
-action_in s v a b = actionAnswer (seek (action_format s v.counts) (λ x. x) no_record a b v.actions.end v.actions.at)
+action_in s v a b = action_answer (seek (action_format s v.counts) (λ x. x) no_record a b v.actions.end v.actions.at)
 
 abbrev pub goto_in : List ℕ → View → (state nonterminal : ℕ) → Goto
-goto_in s v a b = gotoAnswer (seek (goto_format s v.counts) (λ g. just g.target) nothing a b v.gotos.end v.gotos.at)
+goto_in s v a b = goto_answer (seek (goto_format s v.counts) (λ g. just g.target) nothing a b v.gotos.end v.gotos.at)
 
-action_in_lem : (s : List ℕ) (a b : ℕ) → action_in s (view_of s) a b ≡ actionAnswer (action_of (table_of s) a b)
+action_in_lem : (s : List ℕ) (a b : ℕ) → action_in s (view_of s) a b ≡ action_answer (action_of (table_of s) a b)
 unfolding seek action_format action_of table_of actions_of
 action_in_lem s a b = refl
 
-goto_in_lem : (s : List ℕ) (a b : ℕ) → goto_in s (view_of s) a b ≡ gotoAnswer (goto_of (table_of s) a b)
+goto_in_lem : (s : List ℕ) (a b : ℕ) → goto_in s (view_of s) a b ≡ goto_answer (goto_of (table_of s) a b)
 unfolding seek goto_format goto_of table_of gotos_of
 goto_in_lem s a b = refl
 
@@ -91,10 +91,10 @@ module _ (s : List ℕ) (v : View) (B : Belongs s v) where
   pub checked_gotos : Sound (goto_format s v.counts) s v.gotos.at v.gotos.end
   checked_gotos = gotos_sound s v _ checked_framed refl checked_content
 
-  pub checked_action : (a b : ℕ) (r : Action) → r ≡ action_in s v a b → r ≡ actionAnswer (action_of (table_of s) a b)
+  pub checked_action : (a b : ℕ) (r : Action) → r ≡ action_in s v a b → r ≡ action_answer (action_of (table_of s) a b)
   checked_action a b r e = e ∙ ap (λ w. action_in s w a b) B.is ∙ action_in_lem s a b
 
-  pub checked_goto : (a b : ℕ) (r : Goto) → r ≡ goto_in s v a b → r ≡ gotoAnswer (goto_of (table_of s) a b)
+  pub checked_goto : (a b : ℕ) (r : Goto) → r ≡ goto_in s v a b → r ≡ goto_answer (goto_of (table_of s) a b)
   checked_goto a b r e = e ∙ ap (λ w. goto_in s w a b) B.is ∙ goto_in_lem s a b
 
   pub checked_rule : (k : ℕ) (r : Rule) → r ≡ get_or (rules_from v.counts.rules s v.rules.at) k no_rule → r ≡ rule_of (table_of s) k
@@ -114,7 +114,7 @@ module _ (s : List ℕ) (v : View) (b : Bool) (e : v ≡ view_of s) (f : b ≡ f
 
     module _ (a : Action) (i : d ≡ true) (j : a ≡ action_in s v 0 2) where
       started : shifts (action_of (table_of s) 0 2).shift ≡ a.shifts
-      unfolding actionAnswer
+      unfolding action_answer
       started = sym (ap (λ x. x.shifts) (j ∙ ap (λ w. action_in s w 0 2) e ∙ action_in_lem s 0 2))
 
       pub check_start : a.shifts ≡ false → Wrong ≡ check_of s

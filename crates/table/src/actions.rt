@@ -2,7 +2,7 @@
 ghost use Rattle.std.specs.Prelude.{◌≡◌, ◌+◌, ◌*◌, ◌<◌, ◌≤◌, length, get_or};
 ghost use Rattle.meaning.specs.TableFile.{numbers, action_at, action_size, shift_to, target, no_record};
 ghost use Rattle.meaning.specs.TableRight.{shifts, action_right, action_format, field_right};
-ghost use Rattle.table.specs.Answers.{actionAnswer};
+ghost use Rattle.table.specs.Answers.{action_answer};
 ghost use Rattle.table.specs.Records.{head_right, below, record_test, Inside, Sound, seek};
 
 use super::Action;
@@ -125,7 +125,7 @@ fn number_at(table: &[u8], p: usize, n: u8, i: u8) -> u16
 
 fn action_at(table: &[u8], p: usize) -> Action
     requires { p + action_size table.now p ≤ length table.now }
-    ensures { result ≡ actionAnswer (action_at table.now p) }
+    ensures { result ≡ action_answer (action_at table.now p) }
 {
     let to = numbers::get16(table, p + 4);
     let count = table[p + 6];
@@ -142,7 +142,7 @@ fn action_at(table: &[u8], p: usize) -> Action
 }
 
 fn no_action() -> Action
-    ensures { result ≡ actionAnswer no_record }
+    ensures { result ≡ action_answer no_record }
 {
     Action {
         shifts: false,
@@ -155,7 +155,7 @@ fn no_action() -> Action
 // The record of a state and a class; records ascend, so a greater key ends the search.
 pub fn find_action(table: &[u8], view: View, state: u16, class: u16) -> Action
     requires { Sound (action_format table.now view.counts) table.now view.actions.at view.actions.end }
-    ensures { result ≡ actionAnswer (seek (action_format table.now view.counts) (λ a. a) no_record state class view.actions.end view.actions.at) }
+    ensures { result ≡ action_answer (seek (action_format table.now view.counts) (λ a. a) no_record state class view.actions.end view.actions.at) }
 {
     let wanted = pair(state, class);
     let mut at = view.actions.at;

@@ -3,7 +3,7 @@ ghost use Rattle.std.specs.Prelude.{◌≡◌, ◌+◌, ◌≤◌, length};
 ghost use Rattle.meaning.specs.Basics.{nothing, just};
 ghost use Rattle.meaning.specs.TableFile.{goto_at};
 ghost use Rattle.meaning.specs.TableRight.{goto_right, goto_format, field_right};
-ghost use Rattle.table.specs.Answers.{gotoAnswer};
+ghost use Rattle.table.specs.Answers.{goto_answer};
 ghost use Rattle.table.specs.Records.{record_test, Inside, Sound, seek};
 
 use super::Goto;
@@ -56,7 +56,7 @@ pub fn gotos_right(table: &[u8], counts: Counts, from: usize, end: usize) -> boo
 // Where a state goes on at a nonterminal; records ascend, so a greater key ends the search.
 pub fn find_goto(table: &[u8], view: View, state: u16, nonterminal: u16) -> Goto
     requires { Sound (goto_format table.now view.counts) table.now view.gotos.at view.gotos.end }
-    ensures { result ≡ gotoAnswer (seek (goto_format table.now view.counts) (λ g. just g.target) nothing state nonterminal view.gotos.end view.gotos.at) }
+    ensures { result ≡ goto_answer (seek (goto_format table.now view.counts) (λ g. just g.target) nothing state nonterminal view.gotos.end view.gotos.at) }
 {
     let wanted = pair(state, nonterminal);
     let mut at = view.gotos.at;

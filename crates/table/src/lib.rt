@@ -4,7 +4,7 @@
 ghost use Rattle.std.specs.Prelude.{◌≡◌};
 ghost use Rattle.meaning.specs.TableFile.{table_of, rule_of, action_of, goto_of};
 ghost use Rattle.meaning.specs.TableRight.{content_right};
-ghost use Rattle.table.specs.Answers.{check_of, Belongs, actionAnswer, gotoAnswer};
+ghost use Rattle.table.specs.Answers.{check_of, Belongs, action_answer, goto_answer};
 ghost use Rattle.table.specs.Records.{Framed};
 
 use meaning::{Rule, START_CLASS, StateNo, View};
@@ -76,7 +76,7 @@ pub fn rule_of(table: &[u8], view: View, number: u16) -> Rule
 // What a state does at a class; neither shift nor rules if there is no record.
 pub fn action_of(table: &[u8], view: View, state: StateNo, class: u16) -> Action
     requires { Belongs table.now view }
-    ensures { result ≡ actionAnswer (action_of (table_of table.now) state.0 class) }
+    ensures { result ≡ action_answer (action_of (table_of table.now) state.0 class) }
 {
     actions::find_action(table, view, state.0, class)
 }
@@ -84,7 +84,7 @@ pub fn action_of(table: &[u8], view: View, state: StateNo, class: u16) -> Action
 // Where a state goes on after a reduction to a nonterminal.
 pub fn goto_of(table: &[u8], view: View, state: StateNo, nonterminal: u16) -> Goto
     requires { Belongs table.now view }
-    ensures { result ≡ gotoAnswer (goto_of (table_of table.now) state.0 nonterminal) }
+    ensures { result ≡ goto_answer (goto_of (table_of table.now) state.0 nonterminal) }
 {
     gotos::find_goto(table, view, state.0, nonterminal)
 }

@@ -4,7 +4,7 @@ use native.Mathlib.Omega.{arith}
 use borrow.Author.Rules.{rules}
 use Rattle.meaning.specs.TableFile.{action_at}
 use Rattle.meaning.specs.TableRight.{action_format}
-use Rattle.table.specs.Answers.{actionAnswer}
+use Rattle.table.specs.Answers.{action_answer}
 use Rattle.table.proofs.ActionLaws.{action_key, action_bytes}
 use Rattle.table.proofs.Search.{scan_start, scan_end, scan_fits, scan_found, scan_past, scan_next}
 use Rattle.table.proofs.actions.find_action.Goals as goal
@@ -22,13 +22,13 @@ action_at-requires c = omega (arith, scan_fits _ _ _ _ _ _ _ _ c.loop-at.invaria
 
 pub returns-then-wanted-key-2 : goal.returns-then-wanted-key-2
 unfolding action_format action_at
-returns-then-wanted-key-2 c = c.action_at.ensures ∙ ap actionAnswer (search (scan_found, action_key, rules))
+returns-then-wanted-key-2 c = c.action_at.ensures ∙ ap action_answer (search (scan_found, action_key, rules))
 
 pub returns-then-wanted-key : goal.returns-then-wanted-key
-returns-then-wanted-key c = c.no_action.ensures ∙ ap actionAnswer (search (scan_past, action_key))
+returns-then-wanted-key c = c.no_action.ensures ∙ ap action_answer (search (scan_past, action_key))
 
 pub loop-at-preserved : goal.loop-at-preserved
 loop-at-preserved c = search (scan_next, action_key, action_bytes)
 
 pub returns : goal.returns
-returns c = c.no_action-2.ensures ∙ ap actionAnswer (search (scan_end))
+returns c = c.no_action-2.ensures ∙ ap action_answer (search (scan_end))

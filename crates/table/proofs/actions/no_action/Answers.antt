@@ -1,8 +1,8 @@
 -- `table::actions::no_action` meets its contract. Assumes nothing.
-use Rattle.table.specs.Answers.{actionAnswer}
+use Rattle.table.specs.Answers.{action_answer}
 use mathlib.Core.Path.{refl}
 use Rattle.table.proofs.actions.no_action.Goals as goal
 
 pub returns : goal.returns
-unfolding actionAnswer
+unfolding action_answer
 returns c = refl
