@@ -4,7 +4,7 @@
 usage: python3 tools/port/answers.py NAMES.json CRATE [FUNCTION..]
 
 NAMES.json is what `rt check --generated DIR --old-names` writes for the crate. A goal that the old proof left to `search rules` gets no
-answer: the check finds it. What cannot be turned is printed; the Proof.antt stays there. A turned one moves to OLD/ (out of the tree).
+answer: the check finds it. What cannot be turned is printed; the Proof.antt stays there. A turned one moves to target/old-proofs, or to the folder that the variable OLD names.
 """
 import json
 import os
@@ -14,7 +14,7 @@ import sys
 
 NAME = r"[^\s(){}\[\];,.]+"
 norm = lambda s: s.replace("_", "-").replace("·", "-").lower()
-OLD = os.environ.get("OLD", "/tmp/old-proofs")
+OLD = os.environ.get("OLD", os.path.join("target", "old-proofs"))
 
 
 def declarations(text):
