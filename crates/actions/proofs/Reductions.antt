@@ -1,7 +1,7 @@
 -- What a reduction and a refused action mean, for each list: births, the reading that a reduction leads to, the error record. Assumes nothing.
+use Rattle.std.specs.Prelude.{Some}
 use Rattle.std.proofs.Common.{◌≡◌, ℕ, zero, suc, ◌+◌, ◌-◌, ◌%◌, ◌<◌, ◌≤◌, List, [], ◌∷◌, length, get_or, drop, sym, refl, ap, ◌∙◌, subst, arith, length-drop}
 use lib.ListN.{length-map}
-use Rattle.meaning.specs.Basics.{just}
 use Rattle.meaning.specs.Readings.{Entry, Reading, top, states}
 use Rattle.meaning.specs.TableFile.{Table, rule_of, goto_of, target}
 use Rattle.meaning.specs.Applying.{span_start, reduced, refused_action, nothing_applied, one_error}
@@ -53,7 +53,7 @@ module _ (t : Table) (q : Rule) (v : ℕ) (w : List ℕ) (r : Top) (n : Counts) 
   whole : Linked n.cells (cell_at w) (q.len + (r.height - q.len)) r.cell.0
   whole = rw split s.stack
 
-  module _ (to : ℕ) (leads : goto_of t (get_or (drop q.len (states (stack_in w r))) 0 0) q.left ≡ just to) where
+  module _ (to : ℕ) (leads : goto_of t (get_or (drop q.len (states (stack_in w r))) 0 0) q.left ≡ Some to) where
     lands : lands_in t q w r ≡ to
     unfolding lands_in
     lands =
@@ -88,7 +88,7 @@ module _ (t : Table) (w : List ℕ) (r : Top) (n : Counts) (k : ℕ) (w' : List 
   pub reduces_told : Told list w n w' n' (nothing_applied (n.cells + 1))
   reduces_told = rw (d.born.bytes, d.counts) (told_born list w n (born_cell t q d.value w r) a cells)
 
-  module _ (to : ℕ) (pops : (rule_of t k).len < length (states (stack_in w r))) (leads : goto_of t (get_or (drop (rule_of t k).len (states (stack_in w r))) 0 0) (rule_of t k).left ≡ just to)
+  module _ (to : ℕ) (pops : (rule_of t k).len < length (states (stack_in w r))) (leads : goto_of t (get_or (drop (rule_of t k).len (states (stack_in w r))) 0 0) (rule_of t k).left ≡ Some to)
       (low : length (drop (rule_of t k).len (states (stack_in w r))) < 64) where
     long : 37728 ≤ length w
     long = let l = a.long in omega arith

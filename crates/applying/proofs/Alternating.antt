@@ -4,20 +4,18 @@ use native.Mathlib.Omega.{arith}
 use mathlib.Core.Path.{◌≡◌, refl, sym, ap, ◌∙◌, subst}
 use mathlib.Core.Logic.{inl, inr, ⊎_elim}
 use mathlib.Core.List.{List, ◌++◌, append_assoc, append-nil}
+use Rattle.std.specs.Prelude.{Ok}
 use Rattle.meaning.specs.Readings.{Reading, states}
-use Rattle.meaning.specs.TableFile.{table_of}
+use Rattle.meaning.specs.TableFile.{Table}
 use Rattle.meaning.specs.Walk.{plan}
 use Rattle.meaning.specs.Applying.{Applied, nothing_applied, joined, apply}
 use Rattle.meaning.specs.declared.ErrorRecord.{ErrorRecord}
 use Rattle.meaning.specs.declared.Term.{Term}
-use Rattle.meaning.specs.declared.View.{View}
 use Rattle.cells.specs.Pool.{cell_at}
 use Rattle.cells.proofs.Births.{entries_kept, linked_kept}
 use Rattle.cells.proofs.Records.{cell_agree}
-use Rattle.table.specs.Answers.{Belongs}
 use Rattle.chains.specs.Following.{Plans}
 use Rattle.chains.specs.declared.Planned.{Planned}
-use Rattle.chains.specs.declared.Planned.TheVariants as planned
 use Rattle.chains.proofs.Following.{plans}
 use Rattle.actions.specs.Acting.{stack_in, reading_in}
 use Rattle.state.specs.Births.{FindsCells}
@@ -80,28 +78,26 @@ module _ (list : ℕ) (w w' : List ℕ) (n : Counts) (a : Area list w n) (g : Pl
       }
 
 -- A planning that was not refused makes its reading ready: cells for its births and one result or error for each of its chains are room enough.
-module _ (s : List ℕ) (view : View) (list : ℕ) (x : Term) (r : Top) (n : Counts) (w w' : List ℕ) (before : ℕ) (answer : Planned) (k ended : ℕ) where
-  pub ready_planned : Belongs s view → Area list w n → Stands w r n → PlanDone (plan (table_of s) 16 x.class (states (stack_in w r)) before) w w' answer → answer ≡ planned.Walked k ended →
-      FindsCells n.cells before → n.results + ended ≤ 16 + before → n.errors + ended ≤ 32 + before → ReadingReady s view w' list x r n
-  ready_planned belongs a st d e found hr he =
-      let t = table_of s in
-      let p = plans t 16 x.class (states (stack_in w r)) before answer (marks_of w') k ended d.says d.holds e in
-      let q = subst Ready (sym (planted_reading list w w' n a d.planted r st)) (p, room_planned t x (reading_in w r) n before p.walk k ended p.is found hr he) in
+module _ (t : Table) (list : ℕ) (x : Term) (r : Top) (n : Counts) (w w' : List ℕ) (before : ℕ) (g : Planned) where
+  pub ready_planned : Area list w n → Stands w r n → PlanDone (plan t 16 x.class (states (stack_in w r)) before) w w' (Ok g) →
+      FindsCells n.cells before → n.results + g.chains ≤ 16 + before → n.errors + g.chains ≤ 32 + before → ReadingReady t w' list x r n
+  ready_planned a st d found hr he =
+      let p = plans t 16 x.class (states (stack_in w r)) before (Ok g) (marks_of w') g.walked g.chains d.says d.holds refl in
+      let q = subst Ready (sym (planted_reading list w w' n a d.planted r st)) (p, room_planned t x (reading_in w r) n before p.walk g.walked g.chains p.is found hr he) in
       record {
-        belongs = belongs;
         area = planted_area list w w' n a d.planted;
         stands = planted_stands list w w' n a d.planted r st;
         most = 16;
         before = before;
-        walked = k;
-        ended = ended;
+        walked = g.walked;
+        ended = g.chains;
         plans = q.0;
         room = q.1;
       }
     where
       -- the walk and the room for it, of the reading as it stands after the planning
       Ready : Reading → Type 0
-      Ready q = (p : Plans (table_of s) 16 x.class (states q.stack) before (marks_of w') k ended) × RoomFor n (apply (table_of s) x p.walk q n.cells)
+      Ready q = (p : Plans t 16 x.class (states q.stack) before (marks_of w') g.walked g.chains) × RoomFor n (apply t x p.walk q n.cells)
 
 -- One after the other.
 pub since_told : (list : ℕ) (w : List ℕ) (n : Counts) (w' : List ℕ) (n' : Counts) (o : Applied) → Area list w n → RoomFor n o → Told list w n w' n' o → Since list w n w' n' o

@@ -3,7 +3,7 @@ pub mod Windows
 pub mod Rooms
 mod States
 mod Rules
+mod RuleLists
 mod Endings
-pub mod Planting
 pub mod Alternating
 mod Readings

@@ -5,21 +5,19 @@ use mathlib.Core.Path.{◌≡◌, refl, sym, ap, ◌∙◌, subst}
 use mathlib.Core.Bool.{Bool, true}
 use mathlib.Core.List.{List, ◌∷◌}
 use lib.Dec.{ltb}
-use lib.ListN.{length, get_or, drop}
+use lib.ListN.{length, take, drop}
 use borrow.Author.Tests.{lt-ltb}
-use Rattle.meaning.specs.Basics.{Maybe, nothing, just}
-use Rattle.std.specs.Prelude.{if◌then◌else◌}
+use Rattle.std.specs.Prelude.{if◌then◌else◌, Option, None, Some}
 use Rattle.meaning.specs.Readings.{Reading, states}
-use Rattle.meaning.specs.TableFile.{Table, table_of, rule_of}
+use Rattle.meaning.specs.TableFile.{Table, rule_of}
 use Rattle.meaning.specs.Walk.{shift, ends}
 use Rattle.meaning.specs.Applying.{act_on, reduced, refused_action, Applied, nothing_applied, one_error, joined, then_applied, if_acts, apply}
 use Rattle.meaning.specs.declared.Term.{Term}
-use Rattle.table.specs.Answers.{Belongs}
 use Rattle.table.specs.declared.Action.{Action}
 use Rattle.chains.specs.Actions.{shift_of, rules_from}
 use Rattle.chains.specs.Following.{Follows, FollowsRules, FollowsRule}
-use Rattle.chains.specs.Marks.{chains_mark, size_mark, Marked}
-use Rattle.chains.proofs.Actions.{no_rules, more_rules}
+use Rattle.chains.specs.Marks.{chains_mark, size_mark}
+use Rattle.chains.proofs.Actions.{rule_at, no_rules, more_rules}
 use Rattle.chains.proofs.Following.{follow_end, follow_rule}
 use Rattle.actions.specs.Acting.{stack_in, reading_in}
 use Rattle.actions.specs.Steps.{StepRoom, StepReady, Reduces, Refuses}
@@ -35,31 +33,31 @@ use Rattle.applying.proofs.Windows.{marks_same}
 use Rattle.applying.proofs.Rooms.{room_first, room_rest}
 
 -- The end: the shift, if there is one.
-end_is : (t : Table) (x : Term) (sh : Maybe ℕ) (r : Reading) (n : ℕ) → apply t x (shift sh) r n ≡ end_applied x sh r n
+end_is : (t : Table) (x : Term) (sh : Option ℕ) (r : Reading) (n : ℕ) → apply t x (shift sh) r n ≡ end_applied x sh r n
 unfolding apply
-end_is t x nothing r n = refl
-end_is t x (just to) r n = refl
+end_is t x None r n = refl
+end_is t x (Some to) r n = refl
 
 module _ (p : Place) (a : Action) (next : ℕ) (le : a.count ≤ next) where
   module _ (y : Way) (f : RulesFit p a next y) where
     ended : applied p y.tree ≡ end_applied p.ask.term (shift_of a) (reading_in p.work p.reading) p.counts.cells
     ended =
-        let t = table_of p.table in
+        let t = p.table in
         let st = states (stack_in p.work p.reading) in
         let e = follow_end y.left t y.room p.ask.term.class (marks_of p.work) p.at y.tree (shift_of a) st
         (subst (λ (l : List ℕ). FollowsRules y.left t y.room p.ask.term.class (shift_of a) st l (marks_of p.work) p.at y.tree) (no_rules a next le) f.follows) in
         ap (applied p) e ∙ end_is t p.ask.term (shift_of a) (reading_in p.work p.reading) p.counts.cells
 
-    pub end_ready : EndReady p.ask.list p.work p.ask.term p.reading p.counts a
+    pub end_ready : EndReady p.ask p.work p.reading p.counts a
     end_ready = record { area = f.fits.area; stands = f.fits.stands; higher = f.higher; room = subst (RoomFor p.counts) ended f.fits.room }
 
-  pub told_end : (w' : List ℕ) (n' : Counts) → EndDone p.ask.list p.work p.ask.term p.reading p.counts a w' n' → RulesDone p a next w' n'
+  pub told_end : (w' : List ℕ) (n' : Counts) → EndDone p.ask p.work p.reading p.counts a w' n' → RulesDone p a next w' n'
   told_end w' n' done y f = subst (Told p.ask.list p.work p.counts w' n') (sym (ended y f)) done
 
 -- The next rule.
-module _ (p : Place) (a : Action) (next : ℕ) (lt : next < a.count) (le : a.count ≤ length a.rules) (y : Way) (f : RulesFit p a next y) where
+module _ (p : Place) (a : Action) (next : ℕ) (lt : next < length (take a.count a.rules)) (y : Way) (f : RulesFit p a next y) where
   abbrev t : Table
-  t = table_of p.table
+  t = p.table
 
   abbrev x : Term
   x = p.ask.term
@@ -77,7 +75,7 @@ module _ (p : Place) (a : Action) (next : ℕ) (lt : next < a.count) (le : a.cou
   n = p.counts
 
   abbrev k : ℕ
-  k = get_or a.rules next 0
+  k = rule_at a next
 
   abbrev st : List ℕ
   st = states (stack_in w r)
@@ -85,17 +83,12 @@ module _ (p : Place) (a : Action) (next : ℕ) (lt : next < a.count) (le : a.cou
   pub node : FollowsRule y.left t y.room x.class (shift_of a) st k (rules_from a (next + 1)) (marks_of w) p.at y.tree
   node =
       follow_rule y.left t y.room x.class (marks_of w) p.at y.tree (shift_of a) st k (rules_from a (next + 1))
-      (subst (λ (l : List ℕ). FollowsRules y.left t y.room x.class (shift_of a) st l (marks_of w) p.at y.tree) (more_rules a next lt le) f.follows)
+      (subst (λ (l : List ℕ). FollowsRules y.left t y.room x.class (shift_of a) st l (marks_of w) p.at y.tree) (more_rules a next lt) f.follows)
 
-  -- the rules beside it have higher marks
-  pub some_marks : 1 ≤ size_mark (marks_of w) p.at
-  unfolding Marked
-  some_marks = let m = subst (Marked (marks_of w) p.at) node.walk_is f.follows.marked in let e = m.0.size_read in omega arith
-
-  abbrev others : ℕ → Applied
+  abbrev pub others : ℕ → Applied
   others j = apply t x node.beside (reading_in w r) j
 
-  abbrev if_live : Bool → Maybe ℕ → Applied
+  abbrev if_live : Bool → Option ℕ → Applied
   if_live b m =
       if b then if_acts m (λ v. apply t x node.below (reduced (rule_of t k) node.to v (reading_in w r) n.cells) (n.cells + 1)) (one_error (refused_action t k (reading_in w r)) n.cells)
       else nothing_applied n.cells
@@ -157,8 +150,8 @@ module _ (p : Place) (a : Action) (next : ℕ) (lt : next < a.count) (le : a.cou
     acts = parts ∙ ap (λ (b : Bool). then_applied (if_live b (act_on (rule_of t k) (stack_in w r))) others) (node.live ∙ lt-ltb 0 (chains_mark (marks_of w) p.at) (omega arith))
 
     -- its action refused
-    refused_is : act_on (rule_of t k) (stack_in w r) ≡ nothing → applied p y.tree ≡ then_applied (one_error (refused_action t k (reading_in w r)) n.cells) others
-    refused_is e = acts ∙ ap (λ (m : Maybe ℕ). then_applied (if_live true m) others) e
+    refused_is : act_on (rule_of t k) (stack_in w r) ≡ None → applied p y.tree ≡ then_applied (one_error (refused_action t k (reading_in w r)) n.cells) others
+    refused_is e = acts ∙ ap (λ (m : Option ℕ). then_applied (if_live true m) others) e
 
     -- its action gave a value
     abbrev onward : ℕ → Reading
@@ -167,30 +160,28 @@ module _ (p : Place) (a : Action) (next : ℕ) (lt : next < a.count) (le : a.cou
     abbrev under : ℕ → Applied
     under v = apply t x node.below (onward v) (n.cells + 1)
 
-    given_is : (v : ℕ) → act_on (rule_of t k) (stack_in w r) ≡ just v → applied p y.tree ≡ then_applied (joined (nothing_applied (n.cells + 1)) (under v)) others
-    given_is v e = acts ∙ ap (λ (m : Maybe ℕ). then_applied (if_live true m) others) e
+    given_is : (v : ℕ) → act_on (rule_of t k) (stack_in w r) ≡ Some v → applied p y.tree ≡ then_applied (joined (nothing_applied (n.cells + 1)) (under v)) others
+    given_is v e = acts ∙ ap (λ (m : Option ℕ). then_applied (if_live true m) others) e
 
-    step_room : (m : Maybe ℕ) → act_on (rule_of t k) (stack_in w r) ≡ m → StepRoom n m
-    step_room nothing e =
+    step_room : (m : Option ℕ) → act_on (rule_of t k) (stack_in w r) ≡ m → StepRoom n m
+    step_room None e =
         let o = room_first n (one_error (refused_action t k (reading_in w r)) n.cells) others (subst (RoomFor n) (refused_is e) f.fits.room) (apply_grows t x node.beside (reading_in w r) n.cells) in
         let c = o.errors in
         omega arith
-    step_room (just v) e =
+    step_room (Some v) e =
         let o = room_first n (joined (nothing_applied (n.cells + 1)) (under v)) others (subst (RoomFor n) (given_is v e) f.fits.room) (apply_grows t x node.beside (reading_in w r) (under v).next) in
         let c = o.cells in
         let g = apply_grows t x node.below (onward v) (n.cells + 1) in
         omega arith
 
-    pub step_ready : Belongs p.table p.ask.view → StepReady p.table p.ask.view w r n k
-    step_ready belongs =
+    pub step_ready : StepReady t w r n k
+    step_ready =
         let l = length_states w r in
         let u = node.pops in
         let area = f.fits.area in
         let long = area.long in
         let cells = area.cells in
         record {
-          belongs = belongs;
-          long = area.long;
           pops = record { under = omega arith; stack = record { cells = n.cells; room = omega arith; stack = f.fits.stands.stack } };
           high = f.fits.stands.high;
           cells = area.cells;

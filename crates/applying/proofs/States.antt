@@ -7,9 +7,10 @@ use mathlib.Core.List.{List}
 use lib.Dec.{ltb}
 use lib.ListN.{length, get_or}
 use borrow.Author.Tests.{ltb-false}
-use Rattle.meaning.specs.Basics.{both, Maybe, nothing, just}
+use Rattle.std.specs.Prelude.{Option, None, Some}
+use Rattle.meaning.specs.Basics.{both}
 use Rattle.meaning.specs.Readings.{states}
-use Rattle.meaning.specs.TableFile.{Table, table_of, action_of}
+use Rattle.meaning.specs.TableFile.{Table, action_of}
 use Rattle.meaning.specs.TableRight.{shifts}
 use Rattle.meaning.specs.Chains.{record_at}
 use Rattle.meaning.specs.Walk.{Walk, refused, walked, walk_rules, walk_state, walk_from}
@@ -19,7 +20,7 @@ use Rattle.cells.specs.Pool.{cell_size, cell_at}
 use Rattle.cells.specs.Stacks.{Pool, entries_of}
 use Rattle.cells.specs.declared.Cell.{Cell}
 use Rattle.cells.proofs.Stacks.{linked_top}
-use Rattle.table.specs.Answers.{Belongs, action_answer}
+use Rattle.table.specs.Answers.{action_answer}
 use Rattle.table.specs.declared.Action.{Action}
 use Rattle.chains.specs.Actions.{shift_of, rules_from}
 use Rattle.chains.specs.Following.{FollowsRules}
@@ -30,9 +31,9 @@ use Rattle.actions.proofs.Reductions.{length_states}
 use Rattle.applying.specs.Following.{marks_of, Place, Way, StateFits, Higher, RulesFit, StateDone, RulesDone}
 
 -- A walk that was not refused is nowhere too high to shift.
-higher_by : (sh : Maybe ℕ) (h : ℕ) → both (shifts sh) (ltb 64 (h + 1)) ≡ false → Higher sh h
-higher_by nothing h e = tt
-higher_by (just to) h e = let l = ltb-false 64 (h + 1) e in omega arith
+higher_by : (sh : Option ℕ) (h : ℕ) → both (shifts sh) (ltb 64 (h + 1)) ≡ false → Higher sh h
+higher_by None h e = tt
+higher_by (Some to) h e = let l = ltb-false 64 (h + 1) e in omega arith
 
 higher_at : (left : ℕ) (t : Table) (room class : ℕ) (st : List ℕ) (n c : ℕ) (w : Walk) (n' c' : ℕ) → walk_from left t room class st n c ≡ walked w n' c' → Higher (record_at t class st).shift (length st)
 unfolding walk_from walk_state
@@ -58,10 +59,10 @@ cell_room p y f =
     let few = a.cells in
     omega arith
 
-module _ (p : Place) (belongs : Belongs p.table p.ask.view) (x : Cell) (ex : x ≡ cell_at p.work p.reading.cell.0)
-    (a : Action) (ea : a ≡ action_answer (action_of (table_of p.table) x.state.0 p.ask.term.class)) where
+module _ (p : Place) (x : Cell) (ex : x ≡ cell_at p.work p.reading.cell.0)
+    (a : Action) (ea : a ≡ action_answer (action_of p.table x.state.0 p.ask.term.class)) (four : a.count ≤ 4) where
   abbrev t : Table
-  t = table_of p.table
+  t = p.table
 
   abbrev class : ℕ
   class = p.ask.term.class
@@ -73,16 +74,16 @@ module _ (p : Place) (belongs : Belongs p.table p.ask.view) (x : Cell) (ex : x �
   unfolding record_at
   fit_rules y f =
       let e : get_or st 0 0 ≡ x.state.0 = top_state (cell_at p.work) p.reading.height p.reading.cell.0 f.fits.stands.low ∙ sym (ap (λ (c : Cell). c.state.0) ex) in
-      let sh : (record_at t class st).shift ≡ shift_of a = ap (λ (s : ℕ). (action_of t s class).shift) e ∙ sym (found_shift p.table p.ask.view belongs x.state.0 class a ea) in
-      let ks : (record_at t class st).rules ≡ rules_from a 0 = ap (λ (s : ℕ). (action_of t s class).rules) e ∙ sym (found_rules p.table p.ask.view belongs x.state.0 class a ea) in
+      let sh : (record_at t class st).shift ≡ shift_of a = ap (λ (s : ℕ). (action_of t s class).shift) e ∙ sym (found_shift t x.state.0 class a ea) in
+      let ks : (record_at t class st).rules ≡ rules_from a 0 = ap (λ (s : ℕ). (action_of t s class).rules) e ∙ sym (found_rules t x.state.0 class a ea four) in
       let g = f.follows in
       let h = higher_at y.left t y.room class st p.at g.before y.tree g.after g.ended g.is in
       let fr = follow_state y.left t y.room class (marks_of p.work) p.at y.tree st g in
       record {
         fits = f.fits;
-        higher = subst (λ (m : Maybe ℕ). Higher m p.reading.height) sh (subst (Higher (record_at t class st).shift) (length_states p.work p.reading) h);
+        higher = subst (λ (m : Option ℕ). Higher m p.reading.height) sh (subst (Higher (record_at t class st).shift) (length_states p.work p.reading) h);
         follows = subst (λ (l : List ℕ). FollowsRules y.left t y.room class (shift_of a) st l (marks_of p.work) p.at y.tree) ks
-            (subst (λ (m : Maybe ℕ). FollowsRules y.left t y.room class m st (record_at t class st).rules (marks_of p.work) p.at y.tree) sh fr);
+            (subst (λ (m : Option ℕ). FollowsRules y.left t y.room class m st (record_at t class st).rules (marks_of p.work) p.at y.tree) sh fr);
       }
 
   pub told_state : (w' : List ℕ) (n' : _) → RulesDone p a 0 w' n' → StateDone p w' n'

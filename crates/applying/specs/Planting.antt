@@ -1,13 +1,12 @@
 -- A planning in the work area: what it asks, what it leaves alone, and what applying then finds.
-use Rattle.std.specs.Prelude.{ℕ, ◌+◌, ◌-◌, ◌*◌, ◌<◌, ◌≤◌, ◌≡◌, ◌⊎◌, List, ◌++◌, length}
+use Rattle.std.specs.Prelude.{ℕ, ◌+◌, ◌-◌, ◌*◌, ◌<◌, ◌≤◌, ◌≡◌, ◌⊎◌, List, ◌++◌, length, Result}
 use Rattle.meaning.specs.Applying.{Applied}
 use Rattle.meaning.specs.Limits.{max_readings}
 use Rattle.meaning.specs.Questions.{enough_room}
 use Rattle.meaning.specs.Walk.{Walked}
-use Rattle.meaning.specs.declared.View.{View}
+use Rattle.meaning.specs.declared.Refusal.{Refusal}
 use Rattle.numbers.specs.Writing.{Agree}
 use Rattle.cells.specs.Pool.{cell_at}
-use Rattle.table.specs.Answers.{Belongs}
 use Rattle.chains.specs.Marks.{MarksHold}
 use Rattle.chains.specs.Planning.{plan_of}
 use Rattle.chains.specs.declared.Planned.{Planned}
@@ -26,9 +25,7 @@ pub record Planted (w w' : List ℕ) : Type 0 where
   pub back : Agree w' w results_at (work_len - results_at)
 
 -- A reading stands in the work area, whatever cells are still free there.
-pub record PlanReady (s : List ℕ) (view : View) (w : List ℕ) (room : ℕ) (r : Top) (chains : ℕ) : Type 0 where
-  pub belongs : Belongs s view
-  pub long : length w ≡ work_len
+pub record PlanReady (w : List ℕ) (room : ℕ) (r : Top) (chains : ℕ) : Type 0 where
   pub counts : Counts
   pub cells : counts.cells ≤ work_cells
   pub stands : Stands w r counts
@@ -36,7 +33,7 @@ pub record PlanReady (s : List ℕ) (view : View) (w : List ℕ) (room : ℕ) (r
   pub bound : room ≤ enough_room
 
 -- The answer is that of meaning's planning x, its walk stands in the marks, and nothing else is written.
-pub record PlanDone (x : Walked) (w w' : List ℕ) (answer : Planned) : Type 0 where
+pub record PlanDone (x : Walked) (w w' : List ℕ) (answer : Result Planned Refusal) : Type 0 where
   pub says : answer ≡ plan_of x
   pub holds : MarksHold (marks_of w') 0 x
   pub planted : Planted w w'

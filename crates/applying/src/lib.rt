@@ -1,84 +1,50 @@
 // Applying: the planned chains of one reading are followed once more by the planner's marks, with actions. Dead ends are passed over.
 #![tactic(auto)]
 
-ghost use Rattle.std.specs.Prelude.{◌≡◌, ◌<◌, length};
-ghost use Rattle.meaning.specs.Limits.{max_walked};
+ghost use Rattle.std.specs.Prelude.{◌≡◌};
 ghost use Rattle.meaning.specs.Readings.{states};
-ghost use Rattle.meaning.specs.TableFile.{table_of};
 ghost use Rattle.meaning.specs.Walk.{plan};
-ghost use Rattle.chains.specs.Marks.{chains_mark, size_mark};
 ghost use Rattle.actions.specs.Acting.{stack_in};
-ghost use Rattle.state.specs.Layout.{work_len};
 ghost use Rattle.applying.specs.Following.{marks_of, place, StateReady, StateDone, RulesReady, RulesDone, EndReady, EndDone, ReadingReady, ReadingDone};
 ghost use Rattle.applying.specs.Planting.{PlanReady, PlanDone};
 
-use actions::{Counts, Step, Top};
+use actions::{Counts, Top};
 use chains::Planned;
-use meaning::{Term, View};
-use table::Action;
+use meaning::{Refusal, Term};
+use state::Work;
+use table::{Action, Table};
 
-// What is applied: under the table's view, a term, with the results appended to the list that begins at `list`.
+// What is applied: a term, with the results appended to the list that begins at `list`.
 #[derive(Clone, Copy)]
 struct Ask {
-    view: View,
     list: usize,
     term: Term,
 }
 
-// What is left of a state's rule list: its rules from the one numbered `next` on, whose marks begin at the one numbered `at`.
-#[derive(Clone, Copy)]
-struct Rest {
-    action: Action,
-    next: usize,
-    at: usize,
-}
-
-// How many chains end below the reduction with the mark numbered k.
-fn chains_below(work: &[u8], k: usize) -> usize
-    requires { (k < max_walked) × (length work.now ≡ work_len) }
-    ensures { result ≡ chains_mark (marks_of work.now) k }
+// The planner's marks.
+#[tactic(auto, unfolding(crate::specs::Following::marks_of))]
+fn marks(work: &Work) -> &[u8]
+    ensures { result.now ≡ marks_of work.now }
 {
-    chains::chains_mark(&work[state::MARKS_AT..state::RESULTS_AT], k)
-}
-
-// How many marks that reduction has, with those below it.
-fn marks_of_one(work: &[u8], k: usize) -> usize
-    requires { (k < max_walked) × (length work.now ≡ work_len) }
-    ensures { result ≡ size_mark (marks_of work.now) k }
-{
-    chains::size_mark(&work[state::MARKS_AT..state::RESULTS_AT], k)
-}
-
-// A count of rules as a place.
-fn wide(x: u8) -> usize
-    ensures { result ≡ x }
-{
-    x as usize
+    &work[state::MARKS_AT..state::RESULTS_AT]
 }
 
 // The end of a rule list: its shift, if any, ends a chain that has succeeded.
-fn end_chain(
-    work: &mut [u8],
-    list: usize,
-    term: Term,
-    reading: Top,
-    counts: Counts,
-    action: Action,
-) -> Counts
-    requires { EndReady list work.old term reading counts action }
-    ensures { EndDone list work.old term reading counts action work.new result }
+fn end_chain(work: &mut Work, ask: Ask, reading: Top, counts: Counts, action: Action) -> Counts
+    requires { EndReady ask work.old reading counts action }
+    ensures { EndDone ask work.old reading counts action work.new result }
 {
-    if action.shifts {
-        return actions::shift_one(&mut *work, list, term, reading, counts, action.target);
+    match action.shift {
+        Some(to) => actions::shift_one(work, ask.list, ask.term, reading, counts, to),
+        None => counts,
     }
-    counts
 }
 
 // A state's chains: those of its rule list.
 #[cycle(apply_rules_apply_state)]
 fn apply_state(
-    table: &[u8],
-    work: &mut [u8],
+    table: &Table,
+    work: &mut Work,
     ask: Ask,
     reading: Top,
     counts: Counts,
@@ -88,71 +54,57 @@ fn apply_state(
     ensures { StateDone (place table.now ask work.old reading counts at) work.new result }
 {
     let top = cells::get_cell(work, reading.cell);
-    let term = ask.term;
-    let action = table::action_of(table, ask.view, top.state, term.class);
-    let rest = Rest {
-        action,
-        next: 0,
-        at,
-    };
-    apply_rules(table, &mut *work, ask, reading, counts, rest)
+    let action = table.action(top.state, ask.term.class);
+    apply_rules(table, work, ask, reading, counts, at, action)
 }
 
-// The chains of what is left of a rule list. A reduction below which no chain ends is not run; what stands beside one begins behind its marks.
+// The chains of a state's rule list, whose marks begin at the one numbered `first`. A reduction below which no chain ends is not run; what stands beside one begins behind its marks.
 #[cycle(apply_rules_apply_state)]
 fn apply_rules(
-    table: &[u8],
-    work: &mut [u8],
+    table: &Table,
+    work: &mut Work,
     ask: Ask,
     reading: Top,
-    counts: Counts,
-    rest: Rest,
+    before: Counts,
+    first: usize,
+    action: Action,
 ) -> Counts
-    requires { RulesReady (place table.now ask work.old reading counts rest.at) rest.action rest.next }
-    ensures { RulesDone (place table.now ask work.old reading counts rest.at) rest.action rest.next work.new result }
+    requires { RulesReady (place table.now ask work.old reading before first) action 0 }
+    ensures { RulesDone (place table.now ask work.old reading before first) action 0 work.new result }
 {
-    let action = rest.action;
-    let next = rest.next;
-    if wide(action.count) <= next {
-        return end_chain(&mut *work, ask.list, ask.term, reading, counts, action);
-    }
-    let at = rest.at;
-    let beside = Rest {
-        action,
-        next: next + 1,
-        at: at + marks_of_one(work, at),
-    };
-    if chains_below(work, at) == 0 {
-        return apply_rules(table, &mut *work, ask, reading, counts, beside);
-    }
-    let rule = action.rules[next];
-    let step = actions::reduce_one(table, ask.view, &mut *work, reading, counts, rule);
-    match step {
-        Step::Reduced { top, counts } => {
-            let below = apply_state(table, &mut *work, ask, top, counts, at + 1);
-            apply_rules(table, &mut *work, ask, reading, below, beside)
+    let mut counts = before;
+    let mut at = first;
+    for rule in &action.rules[..usize::from(action.count)] {
+        let size = chains::size_mark(marks(work), at);
+        let beside = at + size;
+        if chains::chains_mark(marks(work), at) != 0 {
+            let step = actions::reduce_one(table, work, reading, counts, *rule);
+            counts = match step.reduced {
+                Some(top) => apply_state(table, work, ask, top, step.counts, at + 1),
+                None => step.counts,
+            };
         }
-        Step::Refused { counts } => apply_rules(table, &mut *work, ask, reading, counts, beside),
+        at = beside;
     }
+    end_chain(work, ask, reading, counts, action)
 }
 
 // One planning of a reading at a class, after so many chains and with room for so many in all.
+#[tactic(auto, unfolding(crate::specs::Following::marks_of))]
 pub fn plan_reading(
-    table: &[u8],
-    view: View,
-    work: &mut [u8],
+    table: &Table,
+    work: &mut Work,
     room: usize,
     class: u16,
     reading: Top,
     chains: usize,
-) -> Planned
-    requires { PlanReady table.now view work.old room reading chains }
-    ensures { PlanDone (plan (table_of table.now) room class (states (stack_in work.old reading)) chains) work.old work.new result }
+) -> Result<Planned, Refusal>
+    requires { PlanReady work.old room reading chains }
+    ensures { PlanDone (plan table.now room class (states (stack_in work.old reading)) chains) work.old work.new result }
 {
     chains::plan_within(
         table,
-        view,
-        &mut *work,
+        work,
         state::MARKS_AT,
         reading.height,
         reading.cell,
@@ -164,17 +116,15 @@ pub fn plan_reading(
 
 // All chains of one reading: its results and error records are appended, and its births are the cells from the next one on.
 pub fn apply_reading(
-    table: &[u8],
-    view: View,
-    work: &mut [u8],
+    table: &Table,
+    work: &mut Work,
     list: usize,
     term: Term,
     reading: Top,
     counts: Counts,
 ) -> Counts
-    requires { ReadingReady table.now view work.old list term reading counts }
-    ensures { ReadingDone (table_of table.now) work.old list term reading counts work.new result }
+    requires { ReadingReady table.now work.old list term reading counts }
+    ensures { ReadingDone table.now work.old list term reading counts work.new result }
 {
-    let ask = Ask { view, list, term };
-    apply_state(table, &mut *work, ask, reading, counts, 0)
+    apply_state(table, work, Ask { list, term }, reading, counts, 0)
 }

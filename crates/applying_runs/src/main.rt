@@ -2,283 +2,211 @@
 // The tables: T1 and T4 of the known runs; `twice`, T1 with rule 0 twice in one record; `join`, T1 with a Join that is too big as rule 2; `wrap`, T1 with the greatest mark in rule 3.
 #![tactic(auto)]
 
-ghost use Rattle.std.specs.Prelude.{◌≡◌, true, length};
-ghost use Rattle.table.specs.Answers.{Belongs};
-ghost use Rattle.state.specs.Layout.{work_len};
-ghost use Rattle.applying_runs.specs.Found.{Found, Ready};
+ghost use Rattle.std.specs.Prelude.{◌≡◌, true};
+ghost use Rattle.applying_runs.specs.Found.{Found};
 
+use actions::errors::get_error;
 use actions::{Counts, Top};
 use cells::Cell;
-use chains::Planned;
-use meaning::{CellNo, Refusal, StateNo, Term, View};
-use table::Checked;
+use meaning::{CellNo, ErrorRecord, MAX_CHAINS, MAX_ERRORS, MAX_READINGS, StateNo, Term};
+use state::{RESULTS_AT, Slot, Work};
+use std::io;
+use table::Table;
 
-const ROOM: usize = meaning::MAX_CHAINS;
-
-fn say(rt: &HostRuntime, text: &[u8]) {
-    let _ = rt.write_all(text);
+// A line: what is said above it, its table file, the word's value.
+#[derive(Clone, Copy)]
+struct Case {
+    title: &'static str,
+    table: &'static str,
+    value: u32,
 }
 
-fn say_number(rt: &HostRuntime, n: u32) {
-    let _ = rt.print(n);
-}
-
-fn wide(x: u16) -> u32 {
-    x as u32
-}
+// Lines of the known runs, and four more.
+const CASES: [Case; 8] = [
+    Case {
+        title: "P3: T1, `3 9 0 1` and `4 0 1 2`: a month and a day",
+        table: "T1",
+        value: 9,
+    },
+    Case {
+        title: "P4: T1, `3 20 0 1` and `4 0 1 2`: no month",
+        table: "T1",
+        value: 20,
+    },
+    Case {
+        title: "P5: T1, `3 40 0 1` and `4 0 1 2`: neither",
+        table: "T1",
+        value: 40,
+    },
+    Case {
+        title: "P10: T4, `3 9 0 1`, then `4 0 1 2`: the empty rule's chain is refused, the shift is not",
+        table: "T4",
+        value: 9,
+    },
+    Case {
+        title: "rule 0 twice in a record: each is its own chain",
+        table: "twice",
+        value: 9,
+    },
+    Case {
+        title: "rule 0 twice in a record: each is its own refusal",
+        table: "twice",
+        value: 20,
+    },
+    Case {
+        title: "a Join above 4294967295 refuses, with the mark before it",
+        table: "join",
+        value: 9,
+    },
+    Case {
+        title: "a mark that wraps: 2 and 4294967295 are 1",
+        table: "wrap",
+        value: 9,
+    },
+];
 
 // The states of a stack, the lowest first.
-fn say_states(rt: &HostRuntime, work: &[u8], height: u16, top: CellNo)
-    requires { length work.now ≡ work_len }
-{
-    if height == 0 {
-        return;
-    }
-    if 2096 <= top.0 {
-        return;
+fn print_states(rt: &impl Print, work: &Work, height: u16, top: CellNo) -> io::Result<()> {
+    if height == 0 || state::WORK_CELLS <= top.0 {
+        return Ok(());
     }
     let x = cells::get_cell(work, top);
-    say_states(rt, work, height - 1, x.parent);
+    print_states(rt, work, height - 1, x.parent)?;
     if 1 < height {
-        say(rt, b",");
+        print!(rt; ",")?;
     }
-    say_number(rt, wide(x.state.0));
+    print!(rt; "{}", x.state.0)
 }
 
 // The entries of a stack, top first: state; value; start, end.
-fn say_entries(rt: &HostRuntime, work: &[u8], height: u16, top: CellNo)
-    requires { length work.now ≡ work_len }
-{
-    if height == 0 {
-        return;
-    }
-    if 2096 <= top.0 {
-        return;
+fn print_entries(rt: &impl Print, work: &Work, height: u16, top: CellNo) -> io::Result<()> {
+    if height == 0 || state::WORK_CELLS <= top.0 {
+        return Ok(());
     }
     let x = cells::get_cell(work, top);
-    say(rt, b" (");
-    say_number(rt, wide(x.state.0));
-    say_span(rt, x.value, x.start, x.end);
-    say_entries(rt, work, height - 1, x.parent);
+    print!(rt; " ({}; {}; {},{})", x.state.0, x.value, x.start, x.end)?;
+    print_entries(rt, work, height - 1, x.parent)
 }
 
-fn say_span(rt: &HostRuntime, value: u32, start: u32, end: u32) {
-    say(rt, b"; ");
-    say_number(rt, value);
-    say(rt, b"; ");
-    say_number(rt, start);
-    say(rt, b",");
-    say_number(rt, end);
-    say(rt, b")");
-}
-
-// The reading i of the list of results.
-fn result_at(work: &[u8], i: u16) -> Top
-    requires { length work.now ≡ work_len }
-{
-    if meaning::MAX_READINGS <= i {
-        return Top {
-            cell: CellNo(0),
-            height: 0,
-            mark: 0,
-        };
-    }
-    let p = state::RESULTS_AT + state::SLOT_SIZE * (i as usize);
-    let cell = CellNo(numbers::get16(work, p));
-    let mark = numbers::get32(work, p + 2);
-    Top {
-        cell,
-        height: height_of(work, cell),
-        mark,
-    }
-}
-
-fn height_of(work: &[u8], c: CellNo) -> u16
-    requires { length work.now ≡ work_len }
-{
-    if 2096 <= c.0 {
+fn height_of(work: &Work, c: CellNo) -> u16 {
+    if state::WORK_CELLS <= c.0 {
         return 0;
     }
-    let x = cells::get_cell(work, c);
-    x.height
+    cells::get_cell(work, c).height
 }
 
-fn say_result(rt: &HostRuntime, work: &[u8], i: u16)
-    requires { length work.now ≡ work_len }
+// The reading that a slot of the list of results means.
+fn reading_of(work: &Work, slot: Slot) -> Top {
+    Top {
+        cell: slot.top,
+        height: height_of(work, slot.top),
+        mark: slot.mark,
+    }
+}
+
+// The results, of which a list has room for so many.
+fn print_results(rt: &impl Print, work: &Work, count: u16) -> io::Result<()> {
+    for i in 0..count.min(MAX_READINGS) {
+        let reading = reading_of(work, state::get_slot(work, RESULTS_AT, i));
+        print!(rt; "  [")?;
+        print_states(rt, work, reading.height, reading.cell)?;
+        print!(rt; "] mark {}, entries", reading.mark)?;
+        print_entries(rt, work, reading.height, reading.cell)?;
+        println!(rt)?;
+    }
+    Ok(())
+}
+
+// The error records, of which there is room for so many.
+fn print_errors(rt: &impl Print, work: &Work, count: u16) -> io::Result<()> {
+    for i in 0..count.min(MAX_ERRORS as u16) {
+        let ErrorRecord { rule, state, mark } = get_error(work, i);
+        println!(rt; "  error: rule {rule}, state {}, mark {mark}", state.0)?;
+    }
+    Ok(())
+}
+
+// Whether the reading stands in cells of lower numbers than the next one, `cells`, and those are few.
+#[tactic(auto, using(crate::proofs::Finding::is_found))]
+fn found(work: &Work, reading: Top, cells: u16) -> bool
+    ensures { result ≡ true → Found work.now reading cells }
 {
-    let reading = result_at(work, i);
-    say(rt, b"  [");
-    say_states(rt, work, reading.height, reading.cell);
-    say(rt, b"] mark ");
-    say_number(rt, reading.mark);
-    say(rt, b", entries");
-    say_entries(rt, work, reading.height, reading.cell);
-    say(rt, b"\n");
+    cells <= state::STATE_CELLS
+        && reading.height != 0
+        && reading.height <= meaning::MAX_HEIGHT
+        && cells::linked_from(
+            work,
+            cells,
+            meaning::MAX_STATES,
+            reading.height,
+            reading.cell,
+        )
 }
 
-fn say_results(rt: &HostRuntime, work: &[u8], count: u16)
-    requires { length work.now ≡ work_len }
+fn nothing_yet(cells: u16) -> Counts
+    ensures { result ≡ record { cells = cells; results = 0; errors = 0 } }
 {
-    let mut i: u16 = 0;
-    while i < count {
-        say_result(rt, work, i);
-        i += 1;
+    Counts {
+        cells,
+        results: 0,
+        errors: 0,
     }
-}
-
-fn say_error(rt: &HostRuntime, work: &[u8], i: u16)
-    requires { length work.now ≡ work_len }
-{
-    if meaning::MAX_ERRORS <= i as usize {
-        return;
-    }
-    let p = state::ERRORS_AT + actions::errors::ERROR_SIZE * (i as usize);
-    say(rt, b"  error: rule ");
-    say_number(rt, wide(numbers::get16(work, p)));
-    say(rt, b", state ");
-    say_number(rt, wide(numbers::get16(work, p + 2)));
-    say(rt, b", mark ");
-    say_number(rt, numbers::get32(work, p + 4));
-    say(rt, b"\n");
-}
-
-fn say_errors(rt: &HostRuntime, work: &[u8], count: u16)
-    requires { length work.now ≡ work_len }
-{
-    let mut i: u16 = 0;
-    while i < count {
-        say_error(rt, work, i);
-        i += 1;
-    }
-}
-
-// Whether the reading stands in cells of lower numbers than the next one.
-#[tactic(auto, using(crate::proofs::Finding::not_found, crate::proofs::Finding::is_found))]
-fn found(work: &[u8], reading: Top, counts: Counts) -> bool
-    requires { length work.now ≡ work_len }
-    ensures { result ≡ true → Found work.now reading counts }
-{
-    if state::STATE_CELLS < counts.cells {
-        return false;
-    }
-    if reading.height == 0 {
-        return false;
-    }
-    if meaning::MAX_HEIGHT < reading.height {
-        return false;
-    }
-    cells::linked_from(
-        work,
-        counts.cells,
-        meaning::MAX_STATES,
-        reading.height,
-        reading.cell,
-    )
-}
-
-fn say_refused(rt: &HostRuntime, refusal: Refusal) {
-    say(rt, b"  refused, ");
-    say_number(rt, refusal.number() as u32);
-    say(rt, b"\n");
-}
-
-fn say_walk(rt: &HostRuntime, walked: usize, chains: usize) {
-    say(rt, b"  reductions ");
-    let _ = rt.print(walked);
-    say(rt, b", chains ");
-    let _ = rt.print(chains);
-    say(rt, b"\n");
 }
 
 // Plans and applies a reading that was found.
-#[tactic(auto, using(crate::proofs::Finding::plan_ready))]
 fn apply_found(
-    rt: &HostRuntime,
-    table: &[u8],
-    view: View,
-    work: &mut [u8],
+    rt: &impl Print,
+    table: &Table,
+    work: &mut Work,
     cells: u16,
     reading: Top,
     term: Term,
-) -> Counts
-    requires { Ready table.now view work.old reading cells }
+) -> io::Result<Counts>
+    requires { Found work.old reading cells }
 {
-    let none = Counts {
-        cells,
-        results: 0,
-        errors: 0,
-    };
-    let planned = applying::plan_reading(table, view, &mut *work, ROOM, term.class, reading, 0);
-    match planned {
-        Planned::Refused(refusal) => {
-            say_refused(rt, refusal);
-            none
+    let none = nothing_yet(cells);
+    match applying::plan_reading(table, work, MAX_CHAINS, term.class, reading, 0) {
+        Err(refusal) => {
+            println!(rt; "  refused, {}", refusal.number())?;
+            Ok(none)
         }
-        Planned::Walked { walked, chains } => {
-            say_walk(rt, walked, chains);
-            applying::apply_reading(
-                table,
-                view,
-                &mut *work,
-                state::RESULTS_AT,
-                term,
-                reading,
-                none,
-            )
+        Ok(planned) => {
+            println!(rt;
+                "  reductions {}, chains {}",
+                planned.walked, planned.chains
+            )?;
+            Ok(applying::apply_reading(table, work, RESULTS_AT, term, reading, none))
         }
     }
 }
 
-// Plans and applies one reading, if there is one.
-fn apply_one(
-    rt: &HostRuntime,
-    table: &[u8],
-    view: View,
-    work: &mut [u8],
+// Plans and applies a reading, if it is one, and says what comes about: results, then errors. Gives the next cell.
+fn run_term(
+    rt: &impl Print,
+    table: &Table,
+    work: &mut Work,
     cells: u16,
     reading: Top,
     term: Term,
-) -> Counts
-    requires { Belongs table.now view × (length work.old ≡ work_len) }
-{
-    let none = Counts {
-        cells,
-        results: 0,
-        errors: 0,
+) -> io::Result<u16> {
+    let counts = if found(work, reading, cells) {
+        apply_found(rt, table, work, cells, reading, term)?
+    } else {
+        nothing_yet(cells)
     };
-    if found(work, reading, none) {
-        return apply_found(rt, table, view, &mut *work, cells, reading, term);
-    }
-    none
-}
-
-// The same, told: results, then errors. Gives the next cell.
-fn tell_one(
-    rt: &HostRuntime,
-    table: &[u8],
-    view: View,
-    work: &mut [u8],
-    cells: u16,
-    reading: Top,
-    term: Term,
-) -> u16
-    requires { Belongs table.now view × (length work.old ≡ work_len) }
-{
-    let counts = apply_one(rt, table, view, &mut *work, cells, reading, term);
-    say_results(rt, work, counts.results);
-    say_errors(rt, work, counts.errors);
-    counts.cells
+    print_results(rt, work, counts.results)?;
+    print_errors(rt, work, counts.errors)?;
+    Ok(counts.cells)
 }
 
 // Start's reading, [1], in cell 0.
-fn start(work: &mut [u8]) -> Top
-    requires { length work.old ≡ work_len }
-{
+fn start(work: &mut Work) -> Top {
+    let cell = CellNo(0);
     cells::put_cell(
-        &mut *work,
-        CellNo(0),
+        work,
+        cell,
         Cell {
-            parent: CellNo(0),
+            parent: cell,
             height: 1,
             state: StateNo(1),
             value: 0,
@@ -287,106 +215,50 @@ fn start(work: &mut [u8]) -> Top
         },
     );
     Top {
-        cell: CellNo(0),
+        cell,
         height: 1,
         mark: 0,
     }
 }
 
 // A word of class 3 from 0 to 1, then the class 4 that ends it.
-fn run_checked(rt: &HostRuntime, table: &[u8], view: View, value: u32, work: &mut [u8])
-    requires { Belongs table.now view × (length work.old ≡ work_len) }
-{
-    let reading = start(&mut *work);
+fn run_line(rt: &impl Print, table: &Table, value: u32) -> io::Result<()> {
+    let mut work = [0; state::WORK_LENGTH];
+    let reading = start(&mut work);
     let word = Term {
         class: 3,
         value,
         start: 0,
         end: 1,
     };
-    let next = tell_one(rt, table, view, &mut *work, 1, reading, word);
+    let next = run_term(rt, table, &mut work, 1, reading, word)?;
     let end = Term {
         class: 4,
         value: 0,
         start: 1,
         end: 2,
     };
-    let top = result_at(work, 0);
-    tell_one(rt, table, view, &mut *work, next, top, end);
+    let left = reading_of(&work, state::get_slot(&work, RESULTS_AT, 0));
+    run_term(rt, table, &mut work, next, left, end)?;
+    Ok(())
 }
 
-fn run_bytes(rt: &HostRuntime, bytes: &[u8], value: u32) {
-    let checked = table::check_table(bytes);
-    match checked {
-        Checked::Wrong => say(rt, b"  wrong table\n"),
-        Checked::Right(view) => {
-            let mut work = [0u8; state::WORK_LENGTH];
-            run_checked(rt, bytes, view, value, &mut work);
-        }
+fn run(rt: &HostRuntime, case: Case) -> io::Result<()> {
+    let Some(mut file) = host::open(rt, case.table.as_bytes()) else {
+        return Ok(());
+    };
+    let mut bytes = [0; 4096];
+    let n = host::read_full(&mut file, &mut bytes);
+    println!(rt; "{}", case.title)?;
+    match Table::check(&bytes[..n]) {
+        Some(table) => run_line(rt, &table, case.value),
+        None => println!(rt; "  wrong table"),
     }
 }
 
-fn run(rt: &HostRuntime, title: &[u8], path: &[u8], value: u32) {
-    if let Some(mut file) = host::open(rt, path) {
-        let mut bytes = [0u8; 4096];
-        let n = host::read_full(&mut file, &mut bytes);
-        say(rt, title);
-        run_bytes(rt, &bytes[..n], value);
-    }
-}
-
-// Lines of the known runs.
-fn known_lines(rt: &HostRuntime) {
-    run(
-        rt,
-        b"P3: T1, `3 9 0 1` and `4 0 1 2`: a month and a day\n",
-        b"T1",
-        9,
-    );
-    run(
-        rt,
-        b"P4: T1, `3 20 0 1` and `4 0 1 2`: no month\n",
-        b"T1",
-        20,
-    );
-    run(
-        rt,
-        b"P5: T1, `3 40 0 1` and `4 0 1 2`: neither\n",
-        b"T1",
-        40,
-    );
-    run(
-        rt,
-        b"P10: T4, `3 9 0 1`, then `4 0 1 2`: the empty rule's chain is refused, the shift is not\n",
-        b"T4",
-        9,
-    );
-}
-
+// What cannot be written is not said anywhere else, and the exit status is 0.
 fn main(rt: HostRuntime) {
-    known_lines(&rt);
-    run(
-        &rt,
-        b"rule 0 twice in a record: each is its own chain\n",
-        b"twice",
-        9,
-    );
-    run(
-        &rt,
-        b"rule 0 twice in a record: each is its own refusal\n",
-        b"twice",
-        20,
-    );
-    run(
-        &rt,
-        b"a Join above 4294967295 refuses, with the mark before it\n",
-        b"join",
-        9,
-    );
-    run(
-        &rt,
-        b"a mark that wraps: 2 and 4294967295 are 1\n",
-        b"wrap",
-        9,
-    );
+    for case in CASES {
+        let _ = run(&rt, case);
+    }
 }

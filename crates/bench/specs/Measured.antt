@@ -1,12 +1,10 @@
 -- What the measured calls answer and leave.
-use Rattle.std.specs.Prelude.{◌≡◌, Bool, List, ℕ, eqb, leb, length}
-use Rattle.meaning.specs.Answers.{start_number, feed_numbers}
-use Rattle.meaning.specs.Basics.{Maybe, nothing, just}
-use Rattle.std.specs.Prelude.{if◌then◌else◌}
+use Rattle.std.specs.Prelude.{◌≡◌, Bool, List, ℕ, eqb, leb, length, Option, Some, None, if◌then◌else◌}
+use Rattle.meaning.specs.Answers.{StartAnswer, start_number, feed_numbers}
 use Rattle.meaning.specs.Limits.{max_errors}
 use Rattle.meaning.specs.TableFile.{table_of, action_of, goto_of, target}
 use Rattle.meaning.specs.TableRight.{table_ok}
-use Rattle.meaning.specs.declared.StartAnswer.{StartAnswer}
+use Rattle.meaning.specs.declared.StateNo.{StateNo}
 use Rattle.meaning.specs.declared.Term.{Term}
 use Rattle.state.specs.Areas.{loaded}
 use Rattle.state.specs.Check.{valid_state}
@@ -19,16 +17,17 @@ use Rattle.by_value.specs.declared.running.FeedRun.{FeedRun}
 abbrev pub one_if : Bool → ℕ
 one_if b = if b then 1 else 0
 
--- Where a right table leads; 0 for nowhere, and for a wrong table.
-abbrev pub place_of : Maybe ℕ → ℕ
-place_of nothing = 0
-place_of (just to) = to
+-- where a shift or a goto leads, as lookups answer; 0 for nowhere
+abbrev pub place_to : Option StateNo → ℕ
+place_to None = 0
+place_to (Some to) = to.0
 
+-- Where a right table leads; 0 for nowhere, and for a wrong table.
 unfoldable pub action_target : List ℕ → (state class : ℕ) → ℕ
 action_target table state class = if table_ok table then target (action_of (table_of table) state class).shift else 0
 
 unfoldable pub goto_target : List ℕ → (state nonterminal : ℕ) → ℕ
-goto_target table state nonterminal = if table_ok table then place_of (goto_of (table_of table) state nonterminal) else 0
+goto_target table state nonterminal = if table_ok table then target (goto_of (table_of table) state nonterminal) else 0
 
 -- The number of a call that kept its promise.
 pub record StartMeasured (table state work : List ℕ) (r : ℕ) (state' work' : List ℕ) : Type 0 where

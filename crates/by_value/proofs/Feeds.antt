@@ -10,7 +10,7 @@ use lib.ListN.{length}
 use borrow.Author.Tests.{le-leb}
 use Rattle.meaning.specs.Calls.{State, FeedCall, feed_call}
 use Rattle.meaning.specs.declared.ErrorRecord.{ErrorRecord}
-use Rattle.meaning.specs.declared.FeedAnswer.{FeedAnswer}
+use Rattle.meaning.specs.Answers.{FeedAnswer}
 use Rattle.meaning.specs.declared.FeedNumbers.{FeedNumbers}
 use Rattle.meaning.specs.declared.Term.{Term}
 use Rattle.meaning.proofs.Booleans.{both_false}

@@ -8,8 +8,8 @@ use mathlib.Core.List.{List, [], map}
 use Prim.Native.Nat.{ℕ}
 use lib.Dec.{leb}
 use lib.ListN.{length, get_or, length-map}
-use Rattle.meaning.specs.Basics.{nothing, just, is_nil}
-use Rattle.std.specs.Prelude.{if◌then◌else◌}
+use Rattle.meaning.specs.Basics.{is_nil}
+use Rattle.std.specs.Prelude.{if◌then◌else◌, None, Some}
 use Rattle.meaning.specs.Calls.{State, check_state, checked, written, wrong_term, FeedCall, feed_refused, feed_ended, feed_right, feed_call, StackCall, no_reading, stack_refused, stack_read, stack_right, stack_call}
 use Rattle.meaning.specs.Feeding.{feed}
 use Rattle.meaning.specs.Outcome.{Fed}
@@ -43,8 +43,8 @@ module _ {A C R : Type 0} (list : C → List A) (count : C → ℕ) (rest : C �
       if_lists (not lengths) (λ ys. refuse ys WrongLength) _ (a WrongLength) (if_lists (not (table_ok table)) (λ ys. refuse ys WrongTable) _ (a WrongTable) (at state))
     where
       at : (s : State) → Lists (λ ys. check_state s (refuse ys) (go ys (table_of table)))
-      at nothing = a WrongState
-      at (just rs) = b (table_of table) rs
+      at None = a WrongState
+      at (Some rs) = b (table_of table) rs
 
   pub filled_on : (call : List A → C) → Lists call → (ys zs : List A) → filled (list (call ys)) zs (count (call ys)) ≡ list (call zs)
   filled_on call l ys zs = rw (l.listed ys, l.counted ys) (padded_filled l.es ys zs ∙ sym (l.listed zs))
@@ -68,8 +68,8 @@ feed_ended_lists f = record { es = f.errors; listed = λ ys. refl; counted = λ 
 feed_right_lists : (t : Table) (x : Term) (rs : List Reading) (next : ℕ) → Lists errors_in count_in besides (λ ys. feed_right t x rs ys next)
 unfolding feed_right
 feed_right_lists t x rs next =
-    if_lists errors_in count_in besides (is_nil rs) (λ ys. feed_refused (just rs) ys Consumed) _ (feed_refused_lists (just rs) Consumed)
-    (if_lists errors_in count_in besides (wrong_term t.counts.classes x) (λ ys. feed_refused (just rs) ys WrongArgument) _ (feed_refused_lists (just rs) WrongArgument) (feed_ended_lists (feed t x rs next)))
+    if_lists errors_in count_in besides (is_nil rs) (λ ys. feed_refused (Some rs) ys Consumed) _ (feed_refused_lists (Some rs) Consumed)
+    (if_lists errors_in count_in besides (wrong_term t.counts.classes x) (λ ys. feed_refused (Some rs) ys WrongArgument) _ (feed_refused_lists (Some rs) WrongArgument) (feed_ended_lists (feed t x rs next)))
 
 pub feed_lists : (lengths : Bool) (table : List ℕ) (s : State) (x : Term) (next : ℕ) → Lists errors_in count_in besides (λ ys. feed_call lengths table s x ys next)
 unfolding feed_call

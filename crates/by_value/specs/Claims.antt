@@ -1,6 +1,6 @@
 -- What is claimed of the calls by value, as definitions: each is a public call, each has one outcome, and what is claimed of the public calls holds of them. Theorems: proofs/Claims.
 use Rattle.std.specs.Prelude.{◌≡◌, false, List, [], ◌∷◌, map, ℕ, length}
-use Rattle.meaning.specs.Answers.{done, feed_numbers, stack_numbers}
+use Rattle.meaning.specs.Answers.{StartAnswer, done, feed_numbers, stack_numbers}
 use Rattle.meaning.specs.Basics.{AllOf}
 use Rattle.meaning.specs.Demand3.{Same, Alike, ByChains}
 use Rattle.meaning.specs.KnownRuns.{Outcome, Run, known_runs}
@@ -9,7 +9,6 @@ use Rattle.meaning.specs.Readings.{plain}
 use Rattle.meaning.specs.TableFile.{table_of}
 use Rattle.meaning.specs.declared.Entry.{Entry as SeenEntry}
 use Rattle.meaning.specs.declared.ErrorRecord.{ErrorRecord}
-use Rattle.meaning.specs.declared.StartAnswer.{StartAnswer}
 use Rattle.meaning.specs.declared.Term.{Term}
 use Rattle.lists.specs.Filling.{filled}
 use Rattle.state.specs.Layout.{state_len, work_len}

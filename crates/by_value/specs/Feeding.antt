@@ -1,21 +1,15 @@
 -- What the feed by value asks and promises: the public promise, where the array by value is what becomes of a lent list without records.
-use Rattle.std.specs.Prelude.{◌≡◌, Bool, true, List, ℕ, ◌≤◌, length}
+use Rattle.std.specs.Prelude.{◌≡◌, true, List, ℕ, ◌≤◌, length, Result, Ok, Err, if◌then◌else◌}
 use Rattle.meaning.specs.Answers.{done, not_taken, feed_numbers}
-use Rattle.std.specs.Prelude.{if◌then◌else◌}
 use Rattle.meaning.specs.Bounds.{max_walked_by_feed}
 use Rattle.meaning.specs.Calls.{FeedCall, feed_right, feed_call}
 use Rattle.meaning.specs.Limits.{max_errors}
 use Rattle.meaning.specs.Outcome.{Fed}
-use Rattle.meaning.specs.TableFile.{table_of}
-use Rattle.meaning.specs.declared.FeedAnswer.TheVariants.{Done, NotTaken, Refused}
+use Rattle.meaning.specs.TableFile.{Table}
 use Rattle.meaning.specs.declared.Refusal.{Refusal}
 use Rattle.meaning.specs.declared.Term.{Term}
-use Rattle.meaning.specs.declared.View.{View}
-use Rattle.table.specs.Answers.{Belongs}
 use Rattle.lists.specs.Filling.{no_record, ByValue}
-use Rattle.lists.specs.declared.errors.Errors.{Errors}
 use Rattle.state.specs.Check.{valid_state}
-use Rattle.state.specs.Layout.{state_len, work_len}
 use Rattle.state.specs.Readings.{used_of, readings_of, results_of}
 use Rattle.actions.specs.Errors.{errors_of}
 use Rattle.actions.specs.Telling.{Area}
@@ -27,29 +21,22 @@ use Rattle.promises.specs.Calls.{FeedLeaves, feed_for}
 use Rattle.by_value.specs.declared.running.FeedRun.{FeedRun}
 
 abbrev pub refused_run : Refusal → FeedRun
-refused_run k = record { answer = Refused k; errors = no_errors }
+refused_run k = record { answer = Err k; errors = no_errors }
 
-unfoldable pub run_of : (taken : Bool) → (walked : ℕ) → Errors → FeedRun
-run_of taken walked errors = record { answer = if taken then Done errors.count walked else NotTaken errors.count walked; errors = errors }
+-- what is handed back
+abbrev pub handed_run : Result FeedRun Refusal → FeedRun
+handed_run (Ok r) = r
+handed_run (Err k) = refused_run k
 
--- buffers of the right lengths
-pub record FeedLine (state work : List ℕ) : Type 0 where
-  pub state_long : length state ≡ state_len
-  pub work_long : length work ≡ work_len
-
--- with a table and a state that were found right
-pub record StagesReady (table : List ℕ) (view : View) (state work : List ℕ) : Type 0 where
-  pub belongs : Belongs table view
-  pub valid : valid_state view.counts.states state ≡ true
-  pub state_long : length state ≡ state_len
-  pub work_long : length work ≡ work_len
+-- a state that was found right, for a table
+pub record StagesReady (t : Table) (state : List ℕ) : Type 0 where
+  pub valid : valid_state t.counts.states state ≡ true
 
 -- A feed that ended, as the work area holds it.
 abbrev pub fed_in : List ℕ → Ended → Fed
 fed_in w e = record { answer = if e.taken then done else not_taken; readings = results_of w e.list e.counts.results; errors = errors_of w e.counts.errors; walked = e.walked; next = e.counts.cells }
 
-pub record EndsReady (state work : List ℕ) (e : Ended) : Type 0 where
-  pub long : length state ≡ state_len
+pub record EndsReady (work : List ℕ) (e : Ended) : Type 0 where
   pub area : Area e.list work e.counts
   pub few : e.walked ≤ max_walked_by_feed
 
@@ -61,8 +48,8 @@ pub record EndedRun (f : Fed) (state : List ℕ) (r : FeedRun) (state' : List �
   pub long : length state' ≡ length state
 
 -- feed of a list without records, on a table and a state that were found right, and on buffers of the right lengths
-abbrev pub feed_in : (table state : List ℕ) → Term → FeedCall
-feed_in table state x = feed_right (table_of table) x (readings_of state) no_errors.list (used_of state)
+abbrev pub feed_in : Table → (state : List ℕ) → Term → FeedCall
+feed_in t state x = feed_right t x (readings_of state) no_errors.list (used_of state)
 
 abbrev pub feed_line : (table state : List ℕ) → Term → FeedCall
 feed_line table state x = feed_call true table (state_for table state) x no_errors.list (used_of state)

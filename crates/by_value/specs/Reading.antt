@@ -1,25 +1,17 @@
 -- Reading a stack out: the entries by value, top first, and what the call by value answers.
-use Rattle.std.specs.Prelude.{◌≡◌, true, List, [], ◌∷◌, ℕ, zero, suc, ◌≤◌, length, replicate}
+use Rattle.std.specs.Prelude.{◌≡◌, true, List, ℕ, ◌≤◌, replicate, Result, Ok, Err}
 use Rattle.meaning.specs.Answers.{stack_numbers}
 use Rattle.meaning.specs.Calls.{StackCall}
 use Rattle.meaning.specs.Limits.{max_height}
 use Rattle.meaning.specs.declared.Entry.{Entry as SeenEntry}
 use Rattle.meaning.specs.declared.Refusal.{Refusal}
-use Rattle.meaning.specs.declared.StackAnswer.TheVariants.{Refused}
-use Rattle.cells.specs.Stacks.{Pool, StackIn}
-use Rattle.lists.specs.Filling.{no_entry, ByValue}
-use Rattle.lists.specs.declared.entries.Entries.{Entries}
+use Rattle.cells.specs.Stacks.{StackIn}
+use Rattle.lists.specs.Filling.{Entries, no_entry, ByValue}
 use Rattle.state.specs.Check.{valid_state}
-use Rattle.state.specs.Layout.{state_len}
 use Rattle.by_value.specs.declared.reading.StackRead.{StackRead}
 
 abbrev pub no_entries : Entries
 no_entries = record { list = replicate max_height no_entry; count = 0 }
-
--- the cells of a stack, top first
-unfoldable pub cells_of : Pool → (height top : ℕ) → List ℕ
-cells_of p zero c = []
-cells_of p (suc h) c = c ∷ cells_of p h (p c).parent.0
 
 -- what reading a stack out asks: it stands in the buffer, and a list has places for it
 pub record ReadReady (state : List ℕ) (height top : ℕ) : Type 0 where
@@ -30,13 +22,17 @@ pub record ReadReady (state : List ℕ) (height top : ℕ) : Type 0 where
 abbrev pub EntriesRead : List SeenEntry → Entries → Type 0
 EntriesRead es r = ByValue max_height no_entry es r.list r.count
 
-unfoldable pub refused_read : Refusal → StackRead
-refused_read k = record { answer = Refused k; entries = no_entries }
+abbrev pub refused_read : Refusal → StackRead
+refused_read k = record { answer = Err k; entries = no_entries }
+
+-- what is handed back
+abbrev pub handed_read : Result StackRead Refusal → StackRead
+handed_read (Ok r) = r
+handed_read (Err k) = refused_read k
 
 pub record RightState (state : List ℕ) : Type 0 where
   pub states : ℕ
   pub valid : valid_state states state ≡ true
-  pub long : length state ≡ state_len
 
 -- A call's answer, and its entries: the array by value is what becomes of a list without entries, with the height beside it.
 pub record ReadPromise (call : List SeenEntry → StackCall) (r : StackRead) : Type 0 where

@@ -136,16 +136,16 @@ pub holds_none : (p : Pool) (h c d : ℕ) → h ≡ 0 → false ≡ holds (entri
 unfolding holds entries_of
 holds_none p h c d e = rw e
 
-pub holds_here : (p : Pool) (h c d : ℕ) → (h ≡ 0 → ⊥) → c ≡ d → true ≡ holds (entries_of p h c) d
+pub holds_here : (p : Pool) (h c d : ℕ) (is : Bool) → (h ≡ 0 → ⊥) → is ≡ eqb c d → is ≡ true → true ≡ holds (entries_of p h c) d
 unfolding holds entries_of
-holds_here p zero c d z e = absurd (z refl)
-holds_here p (suc h) c d z e = rw (eq-eqb c d e)
+holds_here p zero c d is z e q = absurd (z refl)
+holds_here p (suc h) c d is z e q = rw (← (sym q ∙ e))
 
-pub holds_down : (p : Pool) (h c d : ℕ) (x : Cell) (r : Bool) → x ≡ p c → (h ≡ 0 → ⊥) → (c ≡ d → ⊥) →
+pub holds_down : (p : Pool) (h c d : ℕ) (is : Bool) (x : Cell) (r : Bool) → x ≡ p c → (h ≡ 0 → ⊥) → is ≡ eqb c d → is ≡ false →
     r ≡ holds (entries_of p (h - 1) x.parent.0) d → r ≡ holds (entries_of p h c) d
 unfolding holds entries_of
-holds_down p zero c d x r a z e b = absurd (z refl)
-holds_down p (suc h) c d x r a z e b = let u : suc h - 1 ≡ h = omega arith in rw (ne_eqb c d e) (rw (u, a) at b)
+holds_down p zero c d is x r a z e q b = absurd (z refl)
+holds_down p (suc h) c d is x r a z e q b = let u : suc h - 1 ≡ h = omega arith in rw (← (sym q ∙ e)) (rw (u, a) at b)
 
 -- The ways out of the copy of the states.
 pub states_none : (p : Pool) (h c : ℕ) (a : List ℕ) → h ≡ 0 → a ≡ written (reverse (states (entries_of p h c))) a
@@ -171,10 +171,19 @@ states_top : (p : Pool) (h c : ℕ) (x : Cell) → x ≡ p c → x.state.0 ∷ s
 unfolding entries_of
 states_top p h c x e = rw e
 
-pub states_more : (p : Pool) (h c : ℕ) (a : List ℕ) (x : Cell) → x ≡ p c → (h ≡ 0 → ⊥) → h ≤ length a →
-    written (reverse (states (entries_of p (h - 1) x.parent.0))) (set a (h - 1) x.state.0) ≡ written (reverse (states (entries_of p h c))) a
-states_more p zero c a x e z b = absurd (z refl)
-states_more p (suc h) c a x e z b =
+pub states_more : (p : Pool) (h c : ℕ) (a : List ℕ) (x : Cell) (i : ℕ) → x ≡ p c → (h ≡ 0 → ⊥) → i ≡ h - 1 → h ≤ length a →
+    written (reverse (states (entries_of p (h - 1) x.parent.0))) (set a i x.state.0) ≡ written (reverse (states (entries_of p h c))) a
+states_more p zero c a x i e z f b = absurd (z refl)
+states_more p (suc h) c a x i e z f b =
     let u : suc h - 1 ≡ h = omega arith in
-    rw u (states_over h x.state.0 (states (entries_of p h x.parent.0)) a (length_states p h x.parent.0) (omega arith))
+    rw (f, u) (states_over h x.state.0 (states (entries_of p h x.parent.0)) a (length_states p h x.parent.0) (omega arith))
     ∙ ap (λ (r : List ℕ). written (reverse r) a) (states_top p h c x e)
+
+-- For each function that goes down a stack, its ways out and what its calls ask.
+pub ruleset linked_ways = (linked_none, linked_out, linked_height, linked_state, linked_down)
+
+pub ruleset down_ways = (in_under, down_none, down_more)
+
+pub ruleset holds_ways = (in_under, holds_none, holds_here, holds_down)
+
+pub ruleset states_ways = (in_under, states_none, states_more)

@@ -25,11 +25,12 @@ pub struct Cell {
 }
 
 // The cell c.
+#[tactic(auto, unfolding(crate::specs::Pool::cell_at))]
 pub fn get_cell(pool: &[u8], c: CellNo) -> Cell
     requires { cell_size * c.0 + cell_size ≤ length pool.now }
     ensures { result ≡ cell_at pool.now c.0 }
 {
-    let at = CELL_SIZE * (c.0 as usize);
+    let at = CELL_SIZE * usize::from(c.0);
     Cell {
         parent: CellNo(numbers::get16(pool, at)),
         height: numbers::get16(pool, at + 2),
@@ -41,17 +42,18 @@ pub fn get_cell(pool: &[u8], c: CellNo) -> Cell
 }
 
 // Writes the cell c, and no other byte.
+#[tactic(auto, unfolding(crate::specs::Pool::put_cell))]
 pub fn put_cell(pool: &mut [u8], c: CellNo, x: Cell)
     requires { cell_size * c.0 + cell_size ≤ length pool.old }
     ensures { pool.new ≡ put_cell pool.old c.0 x }
 {
-    let at = CELL_SIZE * (c.0 as usize);
-    numbers::put16(&mut *pool, at, x.parent.0);
-    numbers::put16(&mut *pool, at + 2, x.height);
-    numbers::put16(&mut *pool, at + 4, x.state.0);
-    numbers::put32(&mut *pool, at + 6, x.value);
-    numbers::put32(&mut *pool, at + 10, x.start);
-    numbers::put32(&mut *pool, at + 14, x.end);
+    let at = CELL_SIZE * usize::from(c.0);
+    numbers::put16(pool, at, x.parent.0);
+    numbers::put16(pool, at + 2, x.height);
+    numbers::put16(pool, at + 4, x.state.0);
+    numbers::put32(pool, at + 6, x.value);
+    numbers::put32(pool, at + 10, x.start);
+    numbers::put32(pool, at + 14, x.end);
 }
 
 // A cell is born: the number n, which no stack has yet, is its own.
@@ -59,7 +61,7 @@ pub fn birth(pool: &mut [u8], n: u16, x: Cell) -> CellNo
     requires { cell_size * n + cell_size ≤ length pool.old }
     ensures { (result.0 ≡ n) × (pool.new ≡ put_cell pool.old n x) }
 {
-    put_cell(&mut *pool, CellNo(n), x);
+    put_cell(pool, CellNo(n), x);
     CellNo(n)
 }
 
@@ -69,9 +71,8 @@ pub fn entry_at(pool: &[u8], c: CellNo) -> Entry
     ensures { result ≡ seen (entry_at (cell_at pool.now) c.0) }
 {
     let x = get_cell(pool, c);
-    let state = x.state;
     Entry {
-        state,
+        state: x.state,
         value: x.value,
         start: x.start,
         end: x.end,
@@ -79,6 +80,7 @@ pub fn entry_at(pool: &[u8], c: CellNo) -> Entry
 }
 
 // Whether the bytes have a stack of this height at this top: cells below `cells`, states below `states`.
+#[tactic(auto, using(crate::proofs::Stacks::linked_ways))]
 pub fn linked_from(pool: &[u8], cells: u16, states: u16, height: u16, top: CellNo) -> bool
     requires { cell_size * cells ≤ length pool.now }
     ensures { result ≡ linked cells states (cell_at pool.now) height top.0 }
@@ -100,6 +102,7 @@ pub fn linked_from(pool: &[u8], cells: u16, states: u16, height: u16, top: CellN
 }
 
 // The cell k below the top: what is the top after k pops.
+#[tactic(auto, using(crate::proofs::Stacks::down_ways))]
 pub fn down(pool: &[u8], height: u16, top: CellNo, k: u16) -> CellNo
     requires { (k < height) × StackIn pool.now height top.0 }
     ensures { result.0 ≡ down_from (cell_at pool.now) k top.0 }
@@ -112,6 +115,7 @@ pub fn down(pool: &[u8], height: u16, top: CellNo, k: u16) -> CellNo
 }
 
 // Whether a stack holds the cell c.
+#[tactic(auto, using(crate::proofs::Stacks::holds_ways))]
 pub fn holds_cell(pool: &[u8], height: u16, top: CellNo, c: CellNo) -> bool
     requires { StackIn pool.now height top.0 }
     ensures { result ≡ holds (entries_of (cell_at pool.now) height top.0) c.0 }
@@ -119,7 +123,7 @@ pub fn holds_cell(pool: &[u8], height: u16, top: CellNo, c: CellNo) -> bool
     if height == 0 {
         return false;
     }
-    if top.0 == c.0 {
+    if top == c {
         return true;
     }
     let x = get_cell(pool, top);
@@ -127,6 +131,7 @@ pub fn holds_cell(pool: &[u8], height: u16, top: CellNo, c: CellNo) -> bool
 }
 
 // The states of a stack, the lowest first; the places above the height are kept.
+#[tactic(auto, using(crate::proofs::Stacks::states_ways))]
 pub fn states_into(pool: &[u8], height: u16, top: CellNo, old: [u16; HEIGHTS]) -> [u16; HEIGHTS]
     requires { (height ≤ max_height) × StackIn pool.now height top.0 }
     ensures { result ≡ written (reverse (states (entries_of (cell_at pool.now) height top.0))) old }
@@ -135,7 +140,8 @@ pub fn states_into(pool: &[u8], height: u16, top: CellNo, old: [u16; HEIGHTS]) -
         return old;
     }
     let x = get_cell(pool, top);
+    let below = height - 1;
     let mut list = old;
-    list[(height - 1) as usize] = x.state.0;
-    states_into(pool, height - 1, x.parent, list)
+    list[usize::from(below)] = x.state.0;
+    states_into(pool, below, x.parent, list)
 }

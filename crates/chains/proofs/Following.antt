@@ -7,24 +7,23 @@ use mathlib.Core.List.{List, [], ◌∷◌}
 use lib.Dec.{ltb}
 use lib.ListN.{length, get_or, drop}
 use borrow.Author.Tests.{ltb-false, leb-false, eqb-false, lt-ltb, le-ltb}
-use Rattle.meaning.specs.Basics.{both, Maybe, nothing, just}
-use Rattle.meaning.specs.TableFile.{Table, table_of, action_of, rule_of}
+use Rattle.std.specs.Prelude.{Result, Ok, Err, Option, None, Some}
+use Rattle.meaning.specs.Basics.{both}
+use Rattle.meaning.specs.TableFile.{Table, action_of, rule_of}
 use Rattle.meaning.specs.TableRight.{shifts}
 use Rattle.meaning.specs.Chains.{record_at}
 use Rattle.meaning.specs.Walk.{Walk, shift, reduce, refused, walked, end_chain, walk_rules, walk_state, walk_from, plan, ends, size, chains}
 use Rattle.meaning.specs.declared.Refusal.{Refusal}
 use Rattle.meaning.specs.declared.Refusal.TheVariants.{TooHigh, TooManyReadings}
-use Rattle.meaning.specs.declared.View.{View}
 use Rattle.meaning.proofs.Trees.{ends_chain, no_chain, if_not, if_yes, walk_of, count_of, reduces, walk_is}
 use Rattle.numbers.specs.Writing.{Agree}
-use Rattle.table.specs.Answers.{Belongs, action_answer}
+use Rattle.table.specs.Answers.{action_answer}
 use Rattle.table.specs.declared.Action.{Action}
 use Rattle.chains.specs.Actions.{shift_of, rules_from}
 use Rattle.chains.specs.Following.{Follows, FollowsRules, FollowsRule, Plans}
 use Rattle.chains.specs.Marks.{size_mark, Marked, MarksHold}
 use Rattle.chains.specs.Planning.{plan_of, deeper_of, marks_length}
 use Rattle.chains.specs.declared.Planned.{Planned}
-use Rattle.chains.specs.declared.Planned.TheVariants as planned
 use Rattle.chains.proofs.Actions.{found_shift, found_rules}
 use Rattle.chains.proofs.Marking.{narrow, marked_agree}
 use Rattle.chains.proofs.Walking.{walk_state_lem, deeper_is, plan_refused, plan_walked}
@@ -38,11 +37,11 @@ ends_chains w = at (ends w) refl
     at false e = sym (le-ltb 0 (chains w) (omega (arith, no_chain w e)))
 
 -- From the planner's answer.
-module _ (t : Table) (room class : ℕ) (st : List ℕ) (c : ℕ) (r : Planned) where
-  pub refuses : (k : Refusal) → r ≡ plan_of (plan t room class st c) → r ≡ planned.Refused k → plan t room class st c ≡ refused k
+module _ (t : Table) (room class : ℕ) (st : List ℕ) (c : ℕ) (r : Result Planned Refusal) where
+  pub refuses : (k : Refusal) → r ≡ plan_of (plan t room class st c) → r ≡ Err k → plan t room class st c ≡ refused k
   refuses k says e = plan_refused (plan t room class st c) k (sym e ∙ says)
 
-  pub plans : (m : List ℕ) (n c' : ℕ) → r ≡ plan_of (plan t room class st c) → MarksHold m 0 (plan t room class st c) → r ≡ planned.Walked n c' → Plans t room class st c m n c'
+  pub plans : (m : List ℕ) (n c' : ℕ) → r ≡ plan_of (plan t room class st c) → MarksHold m 0 (plan t room class st c) → r ≡ Ok (record { walked = n; chains = c' }) → Plans t room class st c m n c'
   unfolding plan
   plans m n c' says holds e =
       let f = plan_walked (plan t room class st c) n c' (sym e ∙ says) in
@@ -74,16 +73,16 @@ module _ (left : ℕ) (t : Table) (room class : ℕ) (m : List ℕ) (n : ℕ) (w
       record { before = f.before; after = f.after; ended = f.ended; is = e.1; few = f.few; marked = f.marked }
 
   -- After the last rule: the shift.
-  pub follow_end : (sh : Maybe ℕ) (st : List ℕ) → FollowsRules left t room class sh st [] m n w → w ≡ shift sh
+  pub follow_end : (sh : Option ℕ) (st : List ℕ) → FollowsRules left t room class sh st [] m n w → w ≡ shift sh
   unfolding walk_rules end_chain
   follow_end sh st f = at sh f.is
     where
-      at : (s : Maybe ℕ) → end_chain room s n f.before ≡ walked w f.after f.ended → w ≡ shift s
-      at nothing e = sym (ap walk_of e)
-      at (just to) e = sym (ap walk_of (if_yes (ltb f.before room) TooManyReadings (walked (shift (just to)) n (f.before + 1)) e).1)
+      at : (s : Option ℕ) → end_chain room s n f.before ≡ walked w f.after f.ended → w ≡ shift s
+      at None e = sym (ap walk_of e)
+      at (Some to) e = sym (ap walk_of (if_yes (ltb f.before room) TooManyReadings (walked (shift (Some to)) n (f.before + 1)) e).1)
 
   -- At a rule: the reduction, what its mark says, and where its walk goes on, below it and beside it.
-  pub follow_rule : (sh : Maybe ℕ) (st : List ℕ) (k : ℕ) (ks : List ℕ) → FollowsRules left t room class sh st (k ∷ ks) m n w → FollowsRule left t room class sh st k ks m n w
+  pub follow_rule : (sh : Option ℕ) (st : List ℕ) (k : ℕ) (ks : List ℕ) → FollowsRules left t room class sh st (k ∷ ks) m n w → FollowsRule left t room class sh st k ks m n w
   unfolding Marked
   follow_rule sh st k ks f =
       let go = deeper_of left t room class in
@@ -145,13 +144,13 @@ module _ (left : ℕ) (t : Table) (room class : ℕ) (m : List ℕ) (n : ℕ) (w
       }
 
 -- At a stack, by the action that a lookup gives of its top state.
-module _ (s : List ℕ) (view : View) (belongs : Belongs s view) (left room class : ℕ) (m : List ℕ) (n : ℕ) (w : Walk) where
-  pub follow_action : (st : List ℕ) (state : ℕ) (a : Action) → state ≡ get_or st 0 0 → a ≡ action_answer (action_of (table_of s) state class)
-      → Follows left (table_of s) room class st m n w → FollowsRules left (table_of s) room class (shift_of a) st (rules_from a 0) m n w
+module _ (t : Table) (left room class : ℕ) (m : List ℕ) (n : ℕ) (w : Walk) where
+  pub follow_action : (st : List ℕ) (state : ℕ) (a : Action) → state ≡ get_or st 0 0 → a ≡ action_answer (action_of t state class) → a.count ≤ 4
+      → Follows left t room class st m n w → FollowsRules left t room class (shift_of a) st (rules_from a 0) m n w
   unfolding record_at
-  follow_action st state a top is f =
-      let r = record_at (table_of s) class st in
-      let e₁ : r.shift ≡ shift_of a = rw (← top) (sym (found_shift s view belongs state class a is)) in
-      let e₂ : r.rules ≡ rules_from a 0 = rw (← top) (sym (found_rules s view belongs state class a is)) in
-      subst (λ (sh : Maybe ℕ). FollowsRules left (table_of s) room class sh st (rules_from a 0) m n w) e₁
-      (subst (λ (ks : List ℕ). FollowsRules left (table_of s) room class r.shift st ks m n w) e₂ (follow_state left (table_of s) room class m n w st f))
+  follow_action st state a top is four f =
+      let r = record_at t class st in
+      let e₁ : r.shift ≡ shift_of a = rw (← top) (sym (found_shift t state class a is)) in
+      let e₂ : r.rules ≡ rules_from a 0 = rw (← top) (sym (found_rules t state class a is four)) in
+      subst (λ (sh : Option ℕ). FollowsRules left t room class sh st (rules_from a 0) m n w) e₁
+      (subst (λ (ks : List ℕ). FollowsRules left t room class r.shift st ks m n w) e₂ (follow_state left t room class m n w st f))

@@ -6,46 +6,34 @@ use mathlib.Core.List.{List}
 use lib.Dec.{ltb}
 use lib.ListN.{length, get_or, drop}
 use borrow.Author.Tests.{le-leb, lt-leb, eq-eqb, ne_eqb, lt-ltb, le-ltb}
-use Rattle.meaning.specs.Basics.{Maybe, nothing, just}
-use Rattle.std.specs.Prelude.{if◌then◌else◌}
-use Rattle.meaning.specs.TableFile.{Table, state_no, goto_of, rule_of}
+use Rattle.std.specs.Prelude.{if◌then◌else◌, Ok, Err, Option, Some, None, ok_or}
+use Rattle.meaning.specs.TableFile.{Table, goto_of, rule_of}
 use Rattle.meaning.specs.Walk.{Walked, refused, or_no_goto, reduction}
 use Rattle.meaning.specs.declared.Rule.{Rule}
 use Rattle.meaning.specs.declared.StateNo.{StateNo}
+use Rattle.meaning.specs.declared.Refusal.{Refusal}
 use Rattle.meaning.specs.declared.Refusal.TheVariants.{ReachesStart, NoGoto, TooHigh, ChainTooLong, WalkTooLong}
 use Rattle.table.specs.Answers.{goto_answer}
-use Rattle.table.specs.declared.Goto.{Goto}
-use Rattle.table.specs.declared.Goto.TheVariants as goto
 use Rattle.chains.specs.Simulated.{stack_of}
 use Rattle.chains.specs.Reducing.{IsReduction}
 use Rattle.chains.specs.declared.reducing.Stack.{Stack}
 use Rattle.chains.specs.declared.reducing.Progress.{Progress}
-use Rattle.chains.specs.declared.reducing.Reduced.TheVariants.{Refused, To}
+use Rattle.chains.specs.Actions.{number_of}
+use Rattle.chains.proofs.Actions.{number_back}
 use Rattle.chains.proofs.Arrays.{length_stack_of, drop_stack_of}
 
--- what a goto's answer says of the goto
-no_goto : (m : Maybe ℕ) → goto.Nothing ≡ goto_answer m → m ≡ nothing
-unfolding goto_answer
-no_goto nothing e = refl
-no_goto (just to) e = let z : ◌≡◌ {A = ℕ} 0 1 = cc in absurd (omega arith)
-
-some_goto : (m : Maybe ℕ) (s : StateNo) → goto.To s ≡ goto_answer m → m ≡ just s.0
-unfolding goto_answer
-some_goto nothing s e = let z : ◌≡◌ {A = ℕ} 0 1 = cc in absurd (omega arith)
-some_goto (just to) s e = let f : s ≡ state_no to = cc in ap (λ (q : StateNo). just q.0) (sym f)
-
 module _ (t : Table) (k : ℕ) (stack : Stack) (at : Progress) where
-  pub reduce_10 : 1024 ≤ at.walked → IsReduction t k stack at (Refused WalkTooLong)
+  pub reduce_10 : 1024 ≤ at.walked → IsReduction t k stack at (Err WalkTooLong)
   unfolding reduction
   reduce_10 le = record { same = λ go. rw (le-leb 1024 at.walked le); allowed = tt }
 
   module _ (few : at.walked < 1024) where
-    pub reduce_9 : at.left ≡ 0 → IsReduction t k stack at (Refused ChainTooLong)
+    pub reduce_9 : at.left ≡ 0 → IsReduction t k stack at (Err ChainTooLong)
     unfolding reduction
     reduce_9 z = record { same = λ go. rw (lt-leb 1024 at.walked few, eq-eqb at.left 0 z); allowed = tt }
 
     module _ (left : at.left ≡ 0 → ⊥) (q : Rule) (is : q ≡ rule_of t k) (n : ℕ) (len : n ≡ q.len) where
-      pub reduce_6 : stack.height ≤ n → IsReduction t k stack at (Refused ReachesStart)
+      pub reduce_6 : stack.height ≤ n → IsReduction t k stack at (Err ReachesStart)
       unfolding reduction
       reduce_6 le =
           record {
@@ -67,22 +55,32 @@ module _ (t : Table) (k : ℕ) (stack : Stack) (at : Progress) where
             let e : drop q.len (stack_of stack.states stack.height) ≡ rest = rw (← len) (drop_stack_of stack.states n stack.height (omega arith)) in
             rw (lt-leb 1024 at.walked few, ne_eqb at.left 0 left, ← is, length_stack_of stack.states stack.height, lt-leb stack.height q.len (omega arith)) (ap (onward go) e)
 
-        module _ (top : StateNo) (on-top : top.0 ≡ get_or rest 0 0) (g : Goto) (found : g ≡ goto_answer (goto_of t top.0 q.left)) where
-          same_goto : g ≡ goto_answer (goto_of t (get_or rest 0 0) q.left)
-          same_goto = found ∙ ap (λ (s : ℕ). goto_answer (goto_of t s q.left)) on-top
+        module _ (top : StateNo) (on-top : top.0 ≡ get_or rest 0 0) (g : Option StateNo) (found : g ≡ goto_answer (goto_of t top.0 q.left)) where
+          goto_is : goto_of t (get_or rest 0 0) q.left ≡ number_of g
+          goto_is = ap (λ (s : ℕ). goto_of t s q.left) (sym on-top) ∙ sym (number_back (goto_of t top.0 q.left)) ∙ ap number_of (sym found)
 
-          pub reduce_7 : g ≡ goto.Nothing → IsReduction t k stack at (Refused NoGoto)
-          reduce_7 e = record { same = λ go. popped go ∙ rw (no_goto _ (sym e ∙ same_goto)); allowed = tt }
+          pub reduce_7 : (e : Refusal) → ok_or g NoGoto ≡ Err e → IsReduction t k stack at (Err e)
+          reduce_7 e h =
+              let f = gone g e h in
+              record { same = λ go. popped go ∙ rw (goto_is, f.0, f.1) refl; allowed = tt }
+            where
+              gone : (o : Option StateNo) (e : Refusal) → ok_or o NoGoto ≡ Err e → (o ≡ None) × (e ≡ NoGoto)
+              gone None e h = (refl, cc)
+              gone (Some s) e h = cc
 
-          module _ (s : StateNo) (e : g ≡ goto.To s) where
-            leads : goto_of t (get_or rest 0 0) q.left ≡ just s.0
-            leads = some_goto _ s (sym e ∙ same_goto)
+          module _ (s : StateNo) (h : ok_or g NoGoto ≡ Ok s) where
+            leads : goto_of t (get_or rest 0 0) q.left ≡ Some s.0
+            leads = goto_is ∙ by g h
+              where
+                by : (o : Option StateNo) → ok_or o NoGoto ≡ Ok s → number_of o ≡ Some s.0
+                by None h = cc
+                by (Some r) h = let e : r ≡ s = cc in ap (λ (x : StateNo). Some x.0) e
 
-            pub reduce_8 : 64 ≤ stack.height - n → IsReduction t k stack at (Refused TooHigh)
+            pub reduce_8 : 64 ≤ stack.height - n → IsReduction t k stack at (Err TooHigh)
             reduce_8 le =
                 record { same = λ go. popped go ∙ rw (leads, length_stack_of stack.states (stack.height - n), lt-ltb 64 (stack.height - n + 1) (omega arith)); allowed = tt }
 
-            pub reduce_to : stack.height - n < 64 → IsReduction t k stack at (To s (stack.height - n))
+            pub reduce_to : stack.height - n < 64 → IsReduction t k stack at (Ok (record { state = s; base = stack.height - n }))
             reduce_to lt =
                 record {
                   same = λ go. popped go ∙ rw (leads, length_stack_of stack.states (stack.height - n), le-ltb 64 (stack.height - n + 1) (omega arith));

@@ -2,22 +2,17 @@
 use Prim.Native.Nat.{ℕ, ◌+◌, ◌-◌, ◌<◌, ◌≤◌}
 use native.Mathlib.Omega.{arith}
 use mathlib.Core.Path.{◌≡◌, sym, ap, ◌∙◌, subst}
-use mathlib.Core.List.{List, ◌++◌, reverse}
+use mathlib.Core.List.{List, ◌++◌}
 use lib.ListN.{length, get_or, take, drop, length-take, length-drop, get_or-append}
 use lib.Seq.{ext_get_or, get_or-append-add, get_or-take, get_or-drop}
 use borrow.Rule.Slice.PartMut.{put_mid, mid_of, post_of, same_len_mid}
-use Rattle.meaning.specs.Calls.{written}
-use Rattle.meaning.specs.Readings.{states}
-use Rattle.meaning.specs.TableFile.{Table}
-use Rattle.meaning.specs.Walk.{Walked, plan}
-use Rattle.cells.specs.Pool.{cell_at}
-use Rattle.cells.specs.Stacks.{entries_of}
-use Rattle.chains.specs.Simulated.{stack_of}
+use Rattle.std.specs.Prelude.{Result}
+use Rattle.meaning.specs.Walk.{Walked}
+use Rattle.meaning.specs.declared.Refusal.{Refusal}
 use Rattle.chains.specs.Marks.{MarksHold}
 use Rattle.chains.specs.Planning.{plan_of, marks_length}
 use Rattle.chains.specs.Filling.{PlannedWithin}
 use Rattle.chains.specs.declared.Planned.{Planned}
-use Rattle.chains.proofs.Filled.{stack_planned}
 
 -- The part that the planner was lent, put back.
 module _ (at : ℕ) (w m' : List ℕ) (inside : at + marks_length ≤ length w) (lm : length m' ≡ marks_length) where
@@ -55,7 +50,7 @@ module _ (at : ℕ) (w m' : List ℕ) (inside : at + marks_length ≤ length w) 
       let j : i < marks_length = omega arith in
       get_or-take marks_length (drop at (put_mid at marks_length w m')) i 0 j ∙ get_or-drop at (put_mid at marks_length w m') i 0 ∙ put_marks i j)
 
-  pub within : (x : Walked) (answer : Planned) → (answer ≡ plan_of x) × MarksHold m' 0 x → PlannedWithin x w at (put_mid at marks_length w m') answer
+  pub within : (x : Walked) (answer : Result Planned Refusal) → (answer ≡ plan_of x) × MarksHold m' 0 x → PlannedWithin x w at (put_mid at marks_length w m') answer
   within x answer k =
       record {
         says = k.0;
@@ -66,12 +61,9 @@ module _ (at : ℕ) (w m' : List ℕ) (inside : at + marks_length ≤ length w) 
       }
 
 -- The way out of `plan_within`.
-pub planned_within : (t : Table) (room class chains at height top long : ℕ) (w a old m' : List ℕ) (answer : Planned) → at + marks_length ≤ length w → long ≡ marks_length → length m' ≡ length (mid_of at long w)
-    → a ≡ written (reverse (states (entries_of (cell_at w) height top))) old → (answer ≡ plan_of (plan t room class (stack_of a height) chains)) × MarksHold m' 0 (plan t room class (stack_of a height) chains)
-    → PlannedWithin (plan t room class (states (entries_of (cell_at w) height top)) chains) w at (put_mid at long w m') answer
-planned_within t room class chains at height top long w a old m' answer inside el kept e k =
+pub planned_within : (x : Walked) (at long : ℕ) (w m' : List ℕ) (answer : Result Planned Refusal) → at + marks_length ≤ length w → long ≡ marks_length → length m' ≡ length (mid_of at long w)
+    → (answer ≡ plan_of x) × MarksHold m' 0 x → PlannedWithin x w at (put_mid at long w m') answer
+planned_within x at long w m' answer inside el kept k =
     let d = length-drop at w in
     let lm : length m' ≡ marks_length = kept ∙ ap (λ (n : ℕ). length (mid_of at n w)) el ∙ length-take marks_length (drop at w) ∙ omega arith in
-    let x = plan t room class (states (entries_of (cell_at w) height top)) chains in
-    subst (λ (n : ℕ). PlannedWithin x w at (put_mid at n w m') answer) (sym el)
-    (within at w m' inside lm x answer (stack_planned t room class chains (cell_at w) height top a old answer m' e k))
+    subst (λ (n : ℕ). PlannedWithin x w at (put_mid at n w m') answer) (sym el) (within at w m' inside lm x answer k)

@@ -1,6 +1,5 @@
 -- Following a planned walk by its marks: what stands at a stack, and at a rule list, of a walk that was not refused.
-use Rattle.std.specs.Prelude.{ℕ, ◌+◌, ◌-◌, ◌≤◌, ◌<◌, ◌≡◌, List, ◌∷◌, ltb, length, get_or, drop}
-use Rattle.meaning.specs.Basics.{Maybe, just}
+use Rattle.std.specs.Prelude.{ℕ, ◌+◌, ◌-◌, ◌≤◌, ◌<◌, ◌≡◌, List, ◌∷◌, ltb, length, get_or, drop, Option, Some}
 use Rattle.meaning.specs.Limits.{max_height, max_chain, max_walked}
 use Rattle.meaning.specs.TableFile.{Table, goto_of, rule_of}
 use Rattle.meaning.specs.Walk.{Walk, reduce, walked, walk_rules, walk_from, plan, ends, chains}
@@ -17,7 +16,7 @@ pub record Follows (left : ℕ) (t : Table) (room class : ℕ) (st : List ℕ) (
   pub marked : Marked m n w
 
 -- The same at a rule list, with the shift after it.
-pub record FollowsRules (left : ℕ) (t : Table) (room class : ℕ) (sh : Maybe ℕ) (st ks : List ℕ) (m : List ℕ) (n : ℕ) (w : Walk) : Type 0 where
+pub record FollowsRules (left : ℕ) (t : Table) (room class : ℕ) (sh : Option ℕ) (st ks : List ℕ) (m : List ℕ) (n : ℕ) (w : Walk) : Type 0 where
   pub before : ℕ
   pub after : ℕ
   pub ended : ℕ
@@ -26,14 +25,14 @@ pub record FollowsRules (left : ℕ) (t : Table) (room class : ℕ) (sh : Maybe 
   pub marked : Marked m n w
 
 -- What the first rule of the list does, and what its mark, numbered n, says of it: whether a chain ends below it, and where what is walked beside it goes on.
-pub record FollowsRule (left : ℕ) (t : Table) (room class : ℕ) (sh : Maybe ℕ) (st : List ℕ) (rule : ℕ) (ks : List ℕ) (m : List ℕ) (n : ℕ) (w : Walk) : Type 0 where
+pub record FollowsRule (left : ℕ) (t : Table) (room class : ℕ) (sh : Option ℕ) (st : List ℕ) (rule : ℕ) (ks : List ℕ) (m : List ℕ) (n : ℕ) (w : Walk) : Type 0 where
   pub to : ℕ
   pub below : Walk
   pub beside : Walk
   pub walk_is : w ≡ reduce rule to below beside
   pub some_left : 1 ≤ left
   pub pops : (rule_of t rule).len < length st
-  pub leads : goto_of t (get_or (drop (rule_of t rule).len st) 0 0) (rule_of t rule).left ≡ just to
+  pub leads : goto_of t (get_or (drop (rule_of t rule).len st) 0 0) (rule_of t rule).left ≡ Some to
   pub low : length (drop (rule_of t rule).len st) < max_height
   pub few : n < max_walked
   pub rest_few : n + size_mark m n ≤ max_walked

@@ -1,13 +1,11 @@
 // One reduction of a simulated stack, with the refusals that it may meet.
-ghost use Rattle.std.specs.Prelude.{◌≡◌, ◌+◌, ◌-◌, ◌<◌, ◌≤◌, get_or};
+ghost use Rattle.std.specs.Prelude.{◌≡◌, ◌-◌, ◌<◌, ◌≤◌, get_or};
 ghost use Rattle.meaning.specs.Limits.{max_height, max_walked};
-ghost use Rattle.meaning.specs.TableFile.{table_of};
-ghost use Rattle.table.specs.Answers.{Belongs};
 ghost use Rattle.chains.specs.Simulated.{stack_of, Standing, Pushed};
 ghost use Rattle.chains.specs.Reducing.{Stepped, IsReduction};
 
-use meaning::{HEIGHTS, MAX_WALKED, Refusal, StateNo, View};
-use table::Goto;
+use meaning::{HEIGHTS, MAX_WALKED, Refusal, StateNo};
+use table::Table;
 
 // A simulated stack: its states, lowest first, and its height. It is copied at each reduction.
 #[derive(Clone, Copy)]
@@ -26,19 +24,13 @@ pub struct Progress {
 
 // What a reduction leads to: the state to push, and the height to push it at.
 #[derive(Clone, Copy)]
-pub enum Reduced {
-    Refused(Refusal),
-    To { state: StateNo, base: usize },
-}
-
-// A byte as a wider number.
-pub fn wide(x: u8) -> usize
-    ensures { result ≡ x }
-{
-    x as usize
+pub struct Reduced {
+    pub state: StateNo,
+    pub base: usize,
 }
 
 // The top state.
+#[tactic(auto, using(crate::proofs::Arrays::top_stack_of))]
 pub fn top(stack: Stack) -> StateNo
     requires { Standing stack }
     ensures { result.0 ≡ get_or (stack_of stack.states stack.height) 0 0 }
@@ -48,6 +40,7 @@ pub fn top(stack: Stack) -> StateNo
 }
 
 // The stack with `base` entries kept and one state on top of them.
+#[tactic(auto, using(crate::proofs::Arrays::push_leaves))]
 pub fn pushed(stack: Stack, base: usize, state: StateNo) -> Stack
     requires { base < max_height }
     ensures { Pushed stack base state result }
@@ -68,40 +61,34 @@ pub fn stepped(at: Progress) -> Progress
     Progress {
         left: at.left - 1,
         walked: at.walked + 1,
-        chains: at.chains,
+        ..at
     }
 }
 
 // Where the rule numbered `number` leads from a stack; the tests stand in their order.
-pub fn reduce_by(table: &[u8], view: View, stack: Stack, number: u16, at: Progress) -> Reduced
-    requires { Belongs table.now view × Standing stack }
-    ensures { IsReduction (table_of table.now) number stack at result }
+pub fn reduce_by(table: &Table, stack: Stack, number: u16, at: Progress) -> Result<Reduced, Refusal>
+    requires { Standing stack }
+    ensures { IsReduction table.now number stack at result }
 {
     if MAX_WALKED <= at.walked {
-        return Reduced::Refused(Refusal::WalkTooLong);
+        return Err(Refusal::WalkTooLong);
     }
     if at.left == 0 {
-        return Reduced::Refused(Refusal::ChainTooLong);
+        return Err(Refusal::ChainTooLong);
     }
-    let rule = table::rule_of(table, view, number);
-    let len = wide(rule.len);
+    let rule = table.rule(number);
+    let len = usize::from(rule.len);
     if stack.height <= len {
-        return Reduced::Refused(Refusal::ReachesStart);
+        return Err(Refusal::ReachesStart);
     }
     let base = stack.height - len;
-    let states = stack.states;
     let popped = Stack {
-        states,
         height: base,
+        ..stack
     };
-    let goto = table::goto_of(table, view, top(popped), rule.left);
-    match goto {
-        Goto::Nothing => Reduced::Refused(Refusal::NoGoto),
-        Goto::To(state) => {
-            if HEIGHTS <= base {
-                return Reduced::Refused(Refusal::TooHigh);
-            }
-            Reduced::To { state, base }
-        }
+    let state = table.goto(top(popped), rule.left).ok_or(Refusal::NoGoto)?;
+    if HEIGHTS <= base {
+        return Err(Refusal::TooHigh);
     }
+    Ok(Reduced { state, base })
 }

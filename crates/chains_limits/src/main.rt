@@ -3,82 +3,278 @@
 #![tactic(auto)]
 
 ghost use Rattle.std.specs.Prelude.{◌<◌, ◌≤◌, length};
-ghost use Rattle.table.specs.Answers.{Belongs};
 
 use cells::Cell;
 use chains::Planned;
-use meaning::{CellNo, QuestionAnswer, StateNo, View};
-use table::Checked;
+use meaning::{CellNo, MAX_HEIGHT, QuestionAnswer, Refusal, StateNo};
+use std::{fmt, io};
+use table::Table;
 
 const ROOM: usize = meaning::MAX_CHAINS;
 
 // So many marks are shown.
 const SHOWN: usize = 4;
 
-fn say(rt: &HostRuntime, text: &[u8]) {
-    let _ = rt.write_all(text);
+// The cells of a line, 18 bytes each.
+const LINE_LENGTH: usize = cells::CELL_SIZE * meaning::HEIGHTS;
+
+// What is asked of a stack: a planning after so many chains, or the questions, does it take the class and does it recover, which know no limit of chains.
+#[derive(Clone, Copy)]
+enum Asked {
+    Planning(usize),
+    Questions,
 }
 
-fn say_number(rt: &HostRuntime, n: usize) {
-    let _ = rt.print(n);
+// A case: what is said before the answer, its table file, and a stack of a line of cells at a class: the start entry with state 1, above it `second`, above that
+// state 1 again.
+#[derive(Clone, Copy)]
+struct Case {
+    title: &'static str,
+    table: &'static str,
+    class: u16,
+    second: u16,
+    height: u16,
+    asked: Asked,
 }
 
-fn byte(x: u8) -> usize {
-    x as usize
+// What most cases have in common: a planning of [1,2] at class 4, with no chain before it.
+const USUAL: Case = Case {
+    title: "",
+    table: "",
+    class: 4,
+    second: 2,
+    height: 2,
+    asked: Asked::Planning(0),
+};
+
+const CASES: [Case; 26] = [
+    Case {
+        title: "T1, [1,2] at class 4",
+        table: "T1",
+        ..USUAL
+    },
+    Case {
+        title: "T1, [1,2] at class 3, which it does not take",
+        table: "T1",
+        class: 3,
+        ..USUAL
+    },
+    Case {
+        title: "a dead end beside a live chain",
+        table: "mixed",
+        class: 5,
+        ..USUAL
+    },
+    Case {
+        title: "a rule as long as the stack",
+        table: "six",
+        class: 3,
+        second: 1,
+        height: 1,
+        ..USUAL
+    },
+    Case {
+        title: "a missing goto",
+        table: "seven",
+        class: 3,
+        second: 1,
+        height: 1,
+        ..USUAL
+    },
+    Case {
+        title: "a shift from height 63 to 64",
+        table: "height",
+        class: 3,
+        second: 1,
+        height: 63,
+        ..USUAL
+    },
+    Case {
+        title: "a shift from height 64 to 65",
+        table: "height",
+        class: 3,
+        second: 1,
+        height: 64,
+        ..USUAL
+    },
+    Case {
+        title: "an empty rule from 62, then a shift from 63",
+        table: "empty",
+        second: 1,
+        height: 62,
+        ..USUAL
+    },
+    Case {
+        title: "an empty rule from 63, then a shift from 64",
+        table: "empty",
+        second: 1,
+        height: 63,
+        ..USUAL
+    },
+    Case {
+        title: "an empty rule from 64 to 65",
+        table: "empty",
+        second: 1,
+        height: 64,
+        ..USUAL
+    },
+    Case {
+        title: "a chain of 32 reductions",
+        table: "chain-32",
+        ..USUAL
+    },
+    Case {
+        title: "a chain of 33 reductions",
+        table: "chain-33",
+        ..USUAL
+    },
+    Case {
+        title: "an empty rule that leads to itself, from height 1",
+        table: "empty-loop",
+        class: 3,
+        second: 1,
+        height: 1,
+        ..USUAL
+    },
+    Case {
+        title: "a walk of 1,024 reductions",
+        table: "walk-1024",
+        ..USUAL
+    },
+    Case {
+        title: "a walk of 1,025 reductions",
+        table: "walk-1025",
+        ..USUAL
+    },
+    Case {
+        title: "16 chains",
+        table: "chains-16",
+        ..USUAL
+    },
+    Case {
+        title: "17 chains",
+        table: "chains-17",
+        ..USUAL
+    },
+    Case {
+        title: "16 chains after one chain",
+        table: "chains-16",
+        asked: Asked::Planning(1),
+        ..USUAL
+    },
+    Case {
+        title: "a live chain, then a missing goto, after 15 chains",
+        table: "mixed",
+        class: 3,
+        asked: Asked::Planning(15),
+        ..USUAL
+    },
+    Case {
+        title: "a live chain, then a missing goto, after 16 chains",
+        table: "mixed",
+        class: 3,
+        asked: Asked::Planning(16),
+        ..USUAL
+    },
+    Case {
+        title: "a missing goto, then a live chain, after 16 chains",
+        table: "mixed",
+        asked: Asked::Planning(16),
+        ..USUAL
+    },
+    Case {
+        title: "T1, [1,2] asked for class 4",
+        table: "T1",
+        asked: Asked::Questions,
+        ..USUAL
+    },
+    Case {
+        title: "T1, [1,2] asked for class 3",
+        table: "T1",
+        class: 3,
+        asked: Asked::Questions,
+        ..USUAL
+    },
+    Case {
+        title: "T2, [1,2] asked for class 3",
+        table: "T2",
+        class: 3,
+        asked: Asked::Questions,
+        ..USUAL
+    },
+    Case {
+        title: "17 chains, asked",
+        table: "chains-17",
+        asked: Asked::Questions,
+        ..USUAL
+    },
+    Case {
+        title: "a live chain, then a missing goto, asked",
+        table: "mixed",
+        class: 3,
+        asked: Asked::Questions,
+        ..USUAL
+    },
+];
+
+// An answer in words.
+#[derive(Clone, Copy)]
+struct Said(QuestionAnswer);
+
+impl fmt::Display for Said {
+    fn fmt<W: fmt::Write>(&self, f: &mut fmt::Formatter<W>) -> fmt::Result {
+        match self.0 {
+            Ok(true) => f.write_str("yes"),
+            Ok(false) => f.write_str("no"),
+            Err(refusal) => write!(f, "refused, {}", refusal.number()),
+        }
+    }
 }
 
 // The first marks of a walk: the chains below each reduction, and its size.
-fn say_marks(rt: &HostRuntime, marks: &[u8; 4096], walked: usize) {
-    let mut k: usize = 0;
-    while k < walked {
+fn say_marks(rt: &impl Print, marks: &[u8; 4096], walked: usize) -> io::Result<()> {
+    for k in 0..walked {
         if SHOWN <= k {
-            say(rt, b" and so on");
-            return;
+            return print!(rt; " and so on");
         }
-        say(rt, b" ");
-        say_number(rt, chains::chains_mark(marks, k));
-        say(rt, b"/");
-        say_number(rt, chains::size_mark(marks, k));
-        k += 1;
+        print!(rt;
+            " {}/{}",
+            chains::chains_mark(marks, k),
+            chains::size_mark(marks, k)
+        )?;
     }
+    Ok(())
 }
 
-fn say_planned(rt: &HostRuntime, planned: Planned, marks: &[u8; 4096]) {
+fn say_planned(
+    rt: &impl Print,
+    planned: Result<Planned, Refusal>,
+    marks: &[u8; 4096],
+) -> io::Result<()> {
     match planned {
-        Planned::Refused(refusal) => {
-            say(rt, b": refused, ");
-            say_number(rt, byte(refusal.number()));
-        }
-        Planned::Walked { walked, chains } => {
-            say(rt, b": reductions ");
-            say_number(rt, walked);
-            say(rt, b", chains ");
-            say_number(rt, chains);
-            if 0 < walked {
-                say(rt, b", marks");
-                say_marks(rt, marks, walked);
+        Err(refusal) => println!(rt; ": refused, {}", refusal.number()),
+        Ok(planned) => {
+            print!(rt;
+                ": reductions {}, chains {}",
+                planned.walked, planned.chains
+            )?;
+            if planned.walked > 0 {
+                print!(rt; ", marks")?;
+                say_marks(rt, marks, planned.walked)?;
             }
+            println!(rt)
         }
     }
-    say(rt, b"\n");
 }
 
-// The cell i of a line of cells: the start entry with state 1, above it `second`, above that state 1 again.
+// The cell i of a line.
 fn cell(i: u16, second: u16) -> Cell
     requires { i < 64 }
 {
-    let mut parent: u16 = 0;
-    if 0 < i {
-        parent = i - 1;
-    }
-    let mut state: u16 = 1;
-    if i == 1 {
-        state = second;
-    }
     Cell {
-        parent: CellNo(parent),
+        parent: CellNo(i.saturating_sub(1)),
         height: i + 1,
-        state: StateNo(state),
+        state: StateNo(if i == 1 { second } else { 1 }),
         value: 0,
         start: 0,
         end: 0,
@@ -86,252 +282,73 @@ fn cell(i: u16, second: u16) -> Cell
 }
 
 // A pool with a line of 64 cells, each on the one before it.
-fn line(second: u16) -> [u8; 1152] {
-    let mut pool = [0u8; 1152];
-    let mut i: u16 = 0;
-    while i < 64 {
+fn line(second: u16) -> [u8; LINE_LENGTH] {
+    let mut pool = [0; LINE_LENGTH];
+    for i in 0..MAX_HEIGHT {
         cells::put_cell(&mut pool, CellNo(i), cell(i, second));
-        i += 1;
     }
     pool
 }
 
-// One planning of a checked table.
-fn plan_checked(
-    rt: &HostRuntime,
-    table: &[u8],
-    view: View,
-    class: u16,
-    second: u16,
-    height: u16,
-    chains: usize,
-)
-    requires { Belongs table.now view × (1 ≤ height) × (height ≤ 64) × (chains ≤ 16) }
-{
-    let pool = line(second);
-    let top = CellNo(height - 1);
-    let mut marks = [0u8; 4096];
-    if cells::linked_from(&pool, 64, meaning::MAX_STATES, height, top) {
-        let planned = chains::plan_stack(
-            table, view, &pool, height, top, class, ROOM, chains, &mut marks,
-        );
-        say_planned(rt, planned, &marks);
+// What is asked of a case's stack by a checked table; nothing if the stack is not the line's, or its planning has more chains before it than there is room for.
+#[tactic(auto, using(crate::proofs::Lines::line_stack))]
+fn answer(rt: &impl Print, table: &Table, case: Case) -> io::Result<()> {
+    let Case { class, height, .. } = case;
+    if height == 0 || height > MAX_HEIGHT {
+        return Ok(());
     }
-}
-
-// One planning of any bytes.
-fn plan_bytes(rt: &HostRuntime, bytes: &[u8], class: u16, second: u16, height: u16, chains: usize)
-    requires { (1 ≤ height) × (height ≤ 64) × (chains ≤ 16) }
-{
-    let checked = table::check_table(bytes);
-    match checked {
-        Checked::Wrong => say(rt, b": wrong table\n"),
-        Checked::Right(view) => plan_checked(rt, bytes, view, class, second, height, chains),
+    let pool = line(case.second);
+    let top = CellNo(height - 1);
+    let mut marks = [0; 4096];
+    if !cells::linked_from(&pool, MAX_HEIGHT, meaning::MAX_STATES, height, top) {
+        return Ok(());
+    }
+    match case.asked {
+        Asked::Planning(chains) => {
+            if chains > ROOM {
+                return Ok(());
+            }
+            let planned = chains::plan_stack(
+                table, &pool, height, top, class, ROOM, chains, &mut marks,
+            );
+            say_planned(rt, planned, &marks)
+        }
+        Asked::Questions => {
+            let takes = chains::can_plan_stack(table, &pool, height, top, class, &mut marks);
+            let recovers = chains::recovers_stack(table, &pool, height, top, &mut marks);
+            println!(rt; ": takes it: {}; recovers: {}", Said(takes), Said(recovers))
+        }
     }
 }
 
 // A table file's bytes, and how many there are; none if it cannot be read.
-fn read(rt: &HostRuntime, path: &[u8], bytes: &mut [u8]) -> usize
+fn read(rt: &HostRuntime, path: &str, bytes: &mut [u8]) -> usize
     ensures { result ≤ length bytes.new }
 {
-    match host::open(rt, path) {
+    match host::open(rt, path.as_bytes()) {
         Some(mut file) => host::read_full(&mut file, bytes),
         None => 0,
     }
 }
 
-// One planning by a table file, after so many chains.
-fn run(
-    rt: &HostRuntime,
-    title: &[u8],
-    path: &[u8],
-    class: u16,
-    second: u16,
-    height: u16,
-    chains: usize,
-)
-    requires { (1 ≤ height) × (height ≤ 64) × (chains ≤ 16) }
-{
-    let mut bytes = [0u8; 4096];
-    let n = read(rt, path, &mut bytes);
-    say(rt, title);
-    plan_bytes(rt, &bytes[..n], class, second, height, chains);
-}
-
-fn say_answer(rt: &HostRuntime, answer: QuestionAnswer) {
-    match answer {
-        QuestionAnswer::Yes => say(rt, b"yes"),
-        QuestionAnswer::No => say(rt, b"no"),
-        QuestionAnswer::Refused(refusal) => {
-            say(rt, b"refused, ");
-            say_number(rt, byte(refusal.number()));
-        }
+fn run(rt: &HostRuntime, case: Case) -> io::Result<()> {
+    let mut bytes = [0; 4096];
+    let n = read(rt, case.table, &mut bytes);
+    print!(rt; "{}", case.title)?;
+    match Table::check(&bytes[..n]) {
+        Some(table) => answer(rt, &table, case),
+        None => println!(rt; ": wrong table"),
     }
 }
 
-// The questions of one stack, which know no limit of chains: does it take the class?
-fn ask_takes(rt: &HostRuntime, table: &[u8], view: View, class: u16, second: u16, height: u16)
-    requires { Belongs table.now view × (1 ≤ height) × (height ≤ 64) }
-{
-    let pool = line(second);
-    let top = CellNo(height - 1);
-    let mut marks = [0u8; 4096];
-    if cells::linked_from(&pool, 64, meaning::MAX_STATES, height, top) {
-        say(rt, b": takes it: ");
-        say_answer(
-            rt,
-            chains::can_plan_stack(table, view, &pool, height, top, class, &mut marks),
-        );
+fn run_all(rt: &HostRuntime) -> io::Result<()> {
+    for case in CASES {
+        run(rt, case)?;
     }
+    Ok(())
 }
 
-// Does it recover?
-fn ask_recovers(rt: &HostRuntime, table: &[u8], view: View, second: u16, height: u16)
-    requires { Belongs table.now view × (1 ≤ height) × (height ≤ 64) }
-{
-    let pool = line(second);
-    let top = CellNo(height - 1);
-    let mut marks = [0u8; 4096];
-    if cells::linked_from(&pool, 64, meaning::MAX_STATES, height, top) {
-        say(rt, b"; recovers: ");
-        say_answer(
-            rt,
-            chains::recovers_stack(table, view, &pool, height, top, &mut marks),
-        );
-        say(rt, b"\n");
-    }
-}
-
-fn ask_checked(rt: &HostRuntime, table: &[u8], view: View, class: u16, second: u16, height: u16)
-    requires { Belongs table.now view × (1 ≤ height) × (height ≤ 64) }
-{
-    ask_takes(rt, table, view, class, second, height);
-    ask_recovers(rt, table, view, second, height);
-}
-
-fn ask_bytes(rt: &HostRuntime, bytes: &[u8], class: u16, second: u16, height: u16)
-    requires { (1 ≤ height) × (height ≤ 64) }
-{
-    let checked = table::check_table(bytes);
-    match checked {
-        Checked::Wrong => say(rt, b": wrong table\n"),
-        Checked::Right(view) => ask_checked(rt, bytes, view, class, second, height),
-    }
-}
-
-fn ask(rt: &HostRuntime, title: &[u8], path: &[u8], class: u16, second: u16, height: u16)
-    requires { (1 ≤ height) × (height ≤ 64) }
-{
-    let mut bytes = [0u8; 4096];
-    let n = read(rt, path, &mut bytes);
-    say(rt, title);
-    ask_bytes(rt, &bytes[..n], class, second, height);
-}
-
-fn heights(rt: &HostRuntime) {
-    run(rt, b"a shift from height 63 to 64", b"height", 3, 1, 63, 0);
-    run(rt, b"a shift from height 64 to 65", b"height", 3, 1, 64, 0);
-    run(
-        rt,
-        b"an empty rule from 62, then a shift from 63",
-        b"empty",
-        4,
-        1,
-        62,
-        0,
-    );
-    run(
-        rt,
-        b"an empty rule from 63, then a shift from 64",
-        b"empty",
-        4,
-        1,
-        63,
-        0,
-    );
-    run(rt, b"an empty rule from 64 to 65", b"empty", 4, 1, 64, 0);
-}
-
-fn lengths(rt: &HostRuntime) {
-    run(rt, b"a chain of 32 reductions", b"chain-32", 4, 2, 2, 0);
-    run(rt, b"a chain of 33 reductions", b"chain-33", 4, 2, 2, 0);
-    run(
-        rt,
-        b"an empty rule that leads to itself, from height 1",
-        b"empty-loop",
-        3,
-        1,
-        1,
-        0,
-    );
-    run(rt, b"a walk of 1,024 reductions", b"walk-1024", 4, 2, 2, 0);
-    run(rt, b"a walk of 1,025 reductions", b"walk-1025", 4, 2, 2, 0);
-}
-
-fn counts(rt: &HostRuntime) {
-    run(rt, b"16 chains", b"chains-16", 4, 2, 2, 0);
-    run(rt, b"17 chains", b"chains-17", 4, 2, 2, 0);
-    run(rt, b"16 chains after one chain", b"chains-16", 4, 2, 2, 1);
-    run(
-        rt,
-        b"a live chain, then a missing goto, after 15 chains",
-        b"mixed",
-        3,
-        2,
-        2,
-        15,
-    );
-    run(
-        rt,
-        b"a live chain, then a missing goto, after 16 chains",
-        b"mixed",
-        3,
-        2,
-        2,
-        16,
-    );
-    run(
-        rt,
-        b"a missing goto, then a live chain, after 16 chains",
-        b"mixed",
-        4,
-        2,
-        2,
-        16,
-    );
-}
-
-fn questions(rt: &HostRuntime) {
-    ask(rt, b"T1, [1,2] asked for class 4", b"T1", 4, 2, 2);
-    ask(rt, b"T1, [1,2] asked for class 3", b"T1", 3, 2, 2);
-    ask(rt, b"T2, [1,2] asked for class 3", b"T2", 3, 2, 2);
-    ask(rt, b"17 chains, asked", b"chains-17", 4, 2, 2);
-    ask(
-        rt,
-        b"a live chain, then a missing goto, asked",
-        b"mixed",
-        3,
-        2,
-        2,
-    );
-}
-
+// What cannot be written is not said anywhere else, and the exit status is 0.
 fn main(rt: HostRuntime) {
-    run(&rt, b"T1, [1,2] at class 4", b"T1", 4, 2, 2, 0);
-    run(
-        &rt,
-        b"T1, [1,2] at class 3, which it does not take",
-        b"T1",
-        3,
-        2,
-        2,
-        0,
-    );
-    run(&rt, b"a dead end beside a live chain", b"mixed", 5, 2, 2, 0);
-    run(&rt, b"a rule as long as the stack", b"six", 3, 1, 1, 0);
-    run(&rt, b"a missing goto", b"seven", 3, 1, 1, 0);
-    heights(&rt);
-    lengths(&rt);
-    counts(&rt);
-    questions(&rt);
+    let _ = run_all(&rt);
 }

@@ -1,11 +1,16 @@
 -- The checks 2 and 3 on the bytes of a call.
-use Rattle.std.specs.Prelude.{true, List, ℕ}
+use Rattle.std.specs.Prelude.{◌≡◌, true, List, ℕ, Result, Ok, Err}
 use Rattle.meaning.specs.Calls.{checked}
-use Rattle.meaning.specs.TableFile.{view_of}
+use Rattle.meaning.specs.TableFile.{Table, table_of}
+use Rattle.meaning.specs.TableRight.{table_ok}
+use Rattle.meaning.specs.declared.Refusal.{Refusal}
 use Rattle.promises.specs.Buffers.{state_for}
-use Rattle.checks.specs.declared.Found.{Found}
-use Rattle.checks.specs.declared.Found.TheVariants.{Refused, Right}
 
--- What they find.
-unfoldable pub found_of : (table state : List ℕ) → Found
-found_of table state = checked true table (state_for table state) Refused (λ t rs. Right (view_of table))
+-- What they find: the table that the bytes say, or the refusal.
+unfoldable pub found_of : (table state : List ℕ) → Result Table Refusal
+found_of table state = checked true table (state_for table state) Err (λ t rs. Ok t)
+
+-- the bytes are a right file of this table
+pub record FileOf (table : List ℕ) (t : Table) : Type 0 where
+  pub is : t ≡ table_of table
+  pub ok : table_ok table ≡ true

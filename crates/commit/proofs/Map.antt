@@ -47,12 +47,13 @@ zeros_part a e w part h g q =
     ap (λ (m : List ℕ). take a w ++ (m ++ post_of a (e - a) w)) (q ∙ ap zeros (mid_len a e w g))
     ∙ ap (λ (m : List ℕ). take a w ++ (zeros (e - a) ++ m)) (Post-is a e w h)
 
-pub forgets : (w part : List ℕ) (n : ℕ) → length w ≡ work_len → n ≤ work_cells → part ≡ zeros (length (mid_of map_at (map_at + 2 * n - map_at) w)) →
-    put_mid map_at (map_at + 2 * n - map_at) w part ≡ forgotten w n
+pub forgets : (w part : List ℕ) (m n : ℕ) → m ≡ n → length w ≡ work_len → n ≤ work_cells → part ≡ zeros (length (mid_of map_at (map_at + 2 * m - map_at) w)) →
+    put_mid map_at (map_at + 2 * m - map_at) w part ≡ forgotten w n
 unfolding forgotten
-forgets w part n l b e =
+forgets w part m n f l b e =
     let u : map_at + 2 * n - map_at ≡ 2 * n = omega arith in
-    zeros_part map_at (map_at + 2 * n) w part (omega arith) (omega arith) e ∙ ap (λ (m : ℕ). take map_at w ++ (zeros m ++ drop (map_at + 2 * n) w)) u
+    rw f
+    (zeros_part map_at (map_at + 2 * n) w part (omega arith) (omega arith) (rw f at e) ∙ ap (λ (k : ℕ). take map_at w ++ (zeros k ++ drop (map_at + 2 * n) w)) u)
 
 module _ (w : List ℕ) (n : ℕ) (l : length w ≡ work_len) (b : n ≤ work_cells) where
   front : length (take map_at w) ≡ map_at

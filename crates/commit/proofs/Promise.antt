@@ -3,7 +3,7 @@ use mathlib.Core.Path.{◌≡◌, refl, ap, sym, ◌∙◌}
 use mathlib.Core.Bool.{Bool, true, false}
 use mathlib.Core.Logic.{inl, inr}
 use mathlib.Core.List.{List, [], ◌∷◌, map}
-use Prim.Native.Nat.{ℕ, zero, suc, ◌+◌, ◌<◌, ◌≤◌}
+use Prim.Native.Nat.{ℕ, zero, suc, ◌+◌, ◌-◌, ◌<◌, ◌≤◌}
 use native.Mathlib.Omega.{arith}
 use lib.ListN.{length}
 use Rattle.meaning.specs.Identities.{ren_entry, ren_reading}
@@ -203,7 +203,7 @@ module _ (w s : List ℕ) (at count cells : ℕ) (y : Results w s at count cells
       }
 
 -- What the function asks of its callee, and its way out.
-pub ready_first : (w s : List ℕ) (at count cells : ℕ) (w₁ : List ℕ) → w₁ ≡ forgotten w cells → Results w s at count cells → ListReady w₁ s at count 0 0
+pub ready_first : (w s : List ℕ) (at count cells : ℕ) (w₁ : List ℕ) → w₁ ≡ forgotten w cells → Results w s at count cells → ListReady w₁ s at (count - 0) 0 0
 ready_first w s at count cells w₁ e y =
     let few = y.few in
     let list = y.list in
@@ -216,7 +216,8 @@ ready_first w s at count cells w₁ e y =
       few = omega arith;
       list = omega arith;
       stands =
-          all_stand_kept cells w w₁ (λ c h. cell_kept w₁ w kept c (omega arith)) at 0 count (λ j g h. slot_kept w₁ w kept at j (omega arith)) y.stands work_cells y.pool;
+          all_stand_kept cells w w₁ (λ c h. cell_kept w₁ w kept c (omega arith)) at 0 (count - 0) (λ j g h. slot_kept w₁ w kept at j (omega arith))
+          (λ j g h. y.stands j g (omega arith)) work_cells y.pool;
     }
 
 pub commits : (w s : List ℕ) (at count cells : ℕ) (w₁ w₂ s₂ s₃ s₄ : List ℕ) (n : ℕ) → Results w s at count cells → w₁ ≡ forgotten w cells →

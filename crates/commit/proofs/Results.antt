@@ -1,7 +1,7 @@
 -- The ways out of the functions that commit one result and all of them, what they leave alone, and what they ask. Assumes nothing.
-use mathlib.Core.Path.{◌≡◌, refl, ap, ◌∙◌}
+use mathlib.Core.Path.{◌≡◌, ap, ◌∙◌}
 use mathlib.Core.List.{List}
-use Prim.Native.Nat.{ℕ, zero, suc, ◌+◌, ◌-◌, ◌*◌, ◌<◌, ◌≤◌}
+use Prim.Native.Nat.{ℕ, suc, ◌+◌, ◌-◌, ◌*◌, ◌<◌, ◌≤◌}
 use native.Mathlib.Omega.{arith}
 use lib.ListN.{length}
 use Rattle.meaning.specs.Bytes.{byte_at}
@@ -73,42 +73,43 @@ one_leaves at w s i n h =
       bound = omega arith;
     }
 
--- All results.
-pub from_none : (at : ℕ) (w s : List ℕ) (i n k : ℕ) → k ≡ 0 → move w s n 0 ≡ commit_from at k w s i n
-unfolding commit_from
-from_none at w s i n k e = rw e
+-- All results: before the result i, and after it.
+module _ (at : ℕ) (w s : List ℕ) (count i n : ℕ) where
+  pub from_end : (q : Move) → count ≤ i → commit_from at (count - i) w s i n ≡ q → move w s n 0 ≡ q
+  unfolding commit_from
+  from_end q h e = let u : count - i ≡ 0 = omega arith in rw u at e
 
-pub from_more : (at : ℕ) (w s : List ℕ) (i n k : ℕ) (w₁ s₁ : List ℕ) (n₁ : ℕ) (q : Move) → (k ≡ 0 → ⊥) → move w₁ s₁ n₁ 0 ≡ commit_one at w s i n →
-    q ≡ commit_from at (k - 1) w₁ s₁ (i + 1) n₁ → q ≡ commit_from at k w s i n
-unfolding commit_from
-from_more at w s i n zero w₁ s₁ n₁ q z a e = absurd (z refl)
-from_more at w s i n (suc k) w₁ s₁ n₁ q z a e = let u : suc k - 1 ≡ k = omega arith in rw (← a) (rw u at e)
+  pub ready_one : i < count → ListReady w s at (count - i) i n → OneReady w s at i n
+  ready_one h y =
+      let r = y.room in
+      let f = y.few in
+      let l = y.list in
+      record { work = y.work; state = y.state; room = omega arith; few = omega arith; list = omega arith; stands = y.stands i (omega arith) (omega arith) }
 
-pub ready_one : (at : ℕ) (w s : List ℕ) (k i n : ℕ) → (k ≡ 0 → ⊥) → ListReady w s at k i n → OneReady w s at i n
-ready_one at w s k i n z y =
-    let r = y.room in
-    let f = y.few in
-    let l = y.list in
-    record { work = y.work; state = y.state; room = omega arith; few = omega arith; list = omega arith; stands = y.stands i (omega arith) (omega arith) }
+  module _ (h : i < count) (w₁ s₁ : List ℕ) (n₁ : ℕ) (a : move w₁ s₁ n₁ 0 ≡ commit_one at w s i n) where
+    pub from_more : (q : Move) → commit_from at (count - i) w s i n ≡ q → commit_from at (count - (i + 1)) w₁ s₁ (i + 1) n₁ ≡ q
+    unfolding commit_from
+    from_more q e =
+        let u : count - i ≡ suc (count - (i + 1)) = omega arith in
+        ap (λ (r : Move). commit_from at (count - (i + 1)) r.work r.state (i + 1) r.next) a ∙ rw u at e
 
-pub ready_more : (at : ℕ) (w s : List ℕ) (k i n : ℕ) (w₁ s₁ : List ℕ) (n₁ : ℕ) → (k ≡ 0 → ⊥) → move w₁ s₁ n₁ 0 ≡ commit_one at w s i n → ListReady w s at k i n →
-    ListReady w₁ s₁ at (k - 1) (i + 1) n₁
-ready_more at w s k i n w₁ s₁ n₁ z a y =
-    let o = one_leaves at w s i n (y.stands i (omega arith) (omega arith)).high in
-    let r = y.room in
-    let f = y.few in
-    let l = y.list in
-    let b = o.bound in
-    let u : n₁ ≡ (commit_one at w s i n).next = ap (λ (r : Move). r.next) a in
-    let v : w₁ ≡ (commit_one at w s i n).work = ap (λ (r : Move). r.work) a in
-    let kept : Agree w₁ w 0 map_at = rw v o.below in
-    record {
-      work = ap length v ∙ o.work ∙ y.work;
-      state = ap (λ (r : Move). length r.state) a ∙ o.state ∙ y.state;
-      room = omega arith;
-      few = omega arith;
-      list = omega arith;
-      stands =
-          all_stand_kept work_cells w w₁ (cell_kept w₁ w kept) at (i + 1) (k - 1) (λ j g h. slot_kept w₁ w kept at j (omega arith))
-          (λ j g h. y.stands j (omega arith) (omega arith)) work_cells (omega arith);
-    }
+    pub ready_more : ListReady w s at (count - i) i n → ListReady w₁ s₁ at (count - (i + 1)) (i + 1) n₁
+    ready_more y =
+        let o = one_leaves at w s i n (y.stands i (omega arith) (omega arith)).high in
+        let r = y.room in
+        let f = y.few in
+        let l = y.list in
+        let b = o.bound in
+        let u : n₁ ≡ (commit_one at w s i n).next = ap (λ (r : Move). r.next) a in
+        let v : w₁ ≡ (commit_one at w s i n).work = ap (λ (r : Move). r.work) a in
+        let kept : Agree w₁ w 0 map_at = rw v o.below in
+        record {
+          work = ap length v ∙ o.work ∙ y.work;
+          state = ap (λ (r : Move). length r.state) a ∙ o.state ∙ y.state;
+          room = omega arith;
+          few = omega arith;
+          list = omega arith;
+          stands =
+              all_stand_kept work_cells w w₁ (cell_kept w₁ w kept) at (i + 1) (count - (i + 1)) (λ j g h. slot_kept w₁ w kept at j (omega arith))
+              (λ j g h. y.stands j (omega arith) (omega arith)) work_cells (omega arith);
+        }

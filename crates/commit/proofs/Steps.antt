@@ -1,5 +1,5 @@
 -- The ways out of the functions that move a stack, and what they leave alone: all of the work area but the map, and in the state every byte from the next free cell on. Assumes nothing.
-use mathlib.Core.Path.{◌≡◌, refl, ap, ◌∙◌}
+use mathlib.Core.Path.{◌≡◌, refl, ap, sym, ◌∙◌}
 use mathlib.Core.Logic.{inl}
 use mathlib.Core.List.{List}
 use Prim.Native.Nat.{ℕ, zero, suc, ◌+◌, ◌-◌, ◌*◌, ◌≤◌}
@@ -12,7 +12,9 @@ use Rattle.cells.specs.declared.Cell.{Cell}
 use Rattle.cells.proofs.Records.{length_put_cell, agree_put_cell}
 use Rattle.cells.proofs.Stacks.{linked_top, linked_under}
 use Rattle.state.specs.Layout.{map_at, work_cells}
-use Rattle.commit.specs.Moving.{moved_to, put_moved, with_parent, Move, move, move_cell, move_step, move_stack, CellReady, MoveReady}
+use Rattle.std.proofs.Common.{Option, Some, None}
+use Rattle.meaning.specs.declared.CellNo.{CellNo}
+use Rattle.commit.specs.Moving.{moved_to, where_gone, put_moved, with_parent, Move, move, move_cell, move_step, move_stack, CellReady, MoveReady}
 use Rattle.commit.proofs.Map.{length_put_moved, agree_put_moved}
 
 pub move_none : (h : ℕ) (w s : List ℕ) (n c : ℕ) → h ≡ 0 → move w s n 0 ≡ move_stack h w s n c
@@ -28,15 +30,25 @@ pub move_more : (h : ℕ) (w s : List ℕ) (n c : ℕ) (r q : Move) (x : Cell) �
     r ≡ move_stack (h - 1) w s n x.parent.0 → q ≡ move_step x c r → q ≡ move_stack h w s n c
 move_more h w s n c r q x a z e i = i ∙ ap (move_step x c) e ∙ move_suc h w s n c x a z
 
-module _ (x : Cell) (c : ℕ) (w s : List ℕ) (n k f : ℕ) (e : f ≡ moved_to w c) where
-  pub step_old : (f ≡ 0 → ⊥) → move w s n (f - 1) ≡ move_step x c (move w s n k)
-  unfolding move_step move_cell
-  step_old b = let u : moved_to w c ≡ suc (f - 1) = omega arith in rw u
+some_gone : (f : ℕ) (to : CellNo) → Some to ≡ where_gone f → f ≡ suc to.0
+unfolding where_gone
+some_gone zero to e = cc
+some_gone (suc k) to e = cc
 
-  pub step_new : f ≡ 0 → (w' s' : List ℕ) (y : Cell) → y ≡ with_parent x k → s' ≡ put_cell s n y → w' ≡ put_moved w c (n + 1) →
+none_gone : (f : ℕ) → None ≡ where_gone f → f ≡ 0
+unfolding where_gone
+none_gone zero e = refl
+none_gone (suc k) e = cc
+
+module _ (x : Cell) (c : ℕ) (w s : List ℕ) (n k : ℕ) (o : Option CellNo) (e : o ≡ where_gone (moved_to w c)) where
+  pub step_old : (to : CellNo) → o ≡ Some to → move w s n to.0 ≡ move_step x c (move w s n k)
+  unfolding move_step move_cell
+  step_old to q = rw (some_gone (moved_to w c) to (sym q ∙ e))
+
+  pub step_new : o ≡ None → (w' s' : List ℕ) (y : Cell) → y ≡ with_parent x k → s' ≡ put_cell s n y → w' ≡ put_moved w c (n + 1) →
       move w' s' (n + 1) n ≡ move_step x c (move w s n k)
   unfolding move_step move_cell
-  step_new b w' s' y i j l = let u : moved_to w c ≡ 0 = omega arith in rw (u, l, j, i)
+  step_new q w' s' y i j l = rw (none_gone (moved_to w c) (sym q ∙ e), l, j, i)
 
 -- What a step from r₀ to r leaves alone, and how many cells it takes at most.
 pub record Leaves (r₀ r : Move) (b : ℕ) : Type 0 where

@@ -1,6 +1,7 @@
 -- Moving a stack from the work area's pool to the state's pool, bottom first. The map in the work area says for each cell where it has gone.
-use Rattle.std.specs.Prelude.{◌≡◌, List, ◌++◌, ℕ, zero, suc, ◌+◌, ◌*◌, ◌<◌, ◌≤◌, length, take, drop}
+use Rattle.std.specs.Prelude.{◌≡◌, Option, Some, None, List, ◌++◌, ℕ, zero, suc, ◌+◌, ◌*◌, ◌<◌, ◌≤◌, length, take, drop}
 use Rattle.meaning.specs.Bytes.{u16_at}
+use Rattle.meaning.specs.declared.CellNo.{CellNo}
 use Rattle.numbers.specs.Writing.{put_u16}
 use Rattle.numbers.specs.Zeros.{zeros}
 use Rattle.cells.specs.Pool.{cell_at, put_cell}
@@ -11,6 +12,11 @@ use Rattle.state.specs.Layout.{map_at, state_cells, state_len, work_cells, work_
 -- where the cell c has gone: suc k for the cell k of the state, zero for nowhere yet
 unfoldable pub moved_to : List ℕ → (c : ℕ) → ℕ
 moved_to w c = u16_at w (map_at + 2 * c)
+
+-- the same as an option
+unfoldable pub where_gone : ℕ → Option CellNo
+where_gone zero = None
+where_gone (suc k) = Some (record { 0 = k })
 
 unfoldable pub put_moved : List ℕ → (c to : ℕ) → List ℕ
 put_moved w c to = put_u16 w (map_at + 2 * c) to

@@ -6,26 +6,25 @@ use mathlib.Core.List.{List, [], ◌∷◌, ◌++◌}
 use Prim.Native.Nat.{ℕ, suc, ◌+◌, ◌-◌, ◌<◌, ◌≤◌}
 use native.Mathlib.Omega.{arith}
 use lib.Dec.{eqb, ltb}
+use Rattle.std.proofs.lemmas.Grind.{common_steps}
 use lib.ListN.{length, get_or, set, take, drop, length-append, get_or-append}
 use lib.Seq.{sets, sets-eq, length-sets, take_all, take-append-le}
 use borrow.Author.Tests.{le-leb, ne_eqb, eq-eqb, eqb-true, eqb-false, lt-ltb, le-ltb, ltb-true, ltb-false}
 use Rattle.meaning.specs.Basics.{both, every}
-use Rattle.std.specs.Prelude.{if◌then◌else◌}
+use Rattle.std.specs.Prelude.{if◌then◌else◌, Option, Some, None}
 use Rattle.meaning.proofs.Booleans.{both_left, both_right, both_true}
 use Rattle.console.specs.Text.{first_of}
 use Rattle.console.specs.Input.{line_room, Fetched, Taken, PutIs, without_return, ended_line, ended_input, AtFeed, AtEnd, LineIs}
 use Rattle.console.specs.declared.lines.Rest.{Rest}
 use Rattle.console.specs.declared.lines.Byte.{Byte}
-use Rattle.console.specs.declared.lines.Byte.TheVariants as byte
 use Rattle.console.specs.declared.lines.Next.{Next}
-use Rattle.console.specs.declared.lines.Next.TheVariants as next
 
 -- No line feed.
 abbrev is_plain : ℕ → Bool
 is_plain b = not (eqb b 10)
 
 -- The turns of the loop.
-abbrev pub all_turns : ℕ
+abbrev all_turns : ℕ
 all_turns = 18446744073709551615
 
 -- So far: these bytes, none of them a line feed, were taken in; the line has them, and they are counted.
@@ -36,20 +35,20 @@ pub record Filling (piece₀ : List ℕ) (rest₀ : Rest) (line₀ piece : List 
   pub holds : line ≡ sets line₀ 0 (take line_room bytes)
   pub short : length bytes ≤ line_room → n ≡ length bytes
   pub long : line_room < length bytes → n ≡ line_room + 1
-  pub left : length bytes + turns ≡ all_turns
+  pub turned : length bytes ≡ turns
 
-pub filling_begins : (piece : List ℕ) (rest : Rest) (line : List ℕ) → Filling piece rest line piece rest line 0 all_turns
+pub filling_begins : (piece : List ℕ) (rest : Rest) (line : List ℕ) → Filling piece rest line piece rest line 0 0
 unfolding Taken
-filling_begins piece rest line = record { bytes = []; no_feed = refl; taken = (refl, refl); holds = refl; short = λ h. refl; long = λ h. absurd (omega arith); left = refl }
+filling_begins piece rest line = record { bytes = []; no_feed = refl; taken = (refl, refl); holds = refl; short = λ h. refl; long = λ h. absurd (omega arith); turned = refl }
 
 -- One byte more.
 taken_more : (piece : List ℕ) (rest : Rest) (bytes p : List ℕ) (r : Rest) (b : ℕ) (p' : List ℕ) (r' : Rest) →
-    Taken piece rest bytes p r → Fetched p r (byte.Is b r') p' → Taken piece rest (bytes ++ b ∷ []) p' r'
+    Taken piece rest bytes p r → Fetched p r (Some (record { byte = b; rest = r' })) p' → Taken piece rest (bytes ++ b ∷ []) p' r'
 unfolding Taken
 taken_more piece rest [] p r b p' r' (e, f) g = record {
   piece₁ = p';
   rest₁ = r';
-  fetched = subst (λ (x : List ℕ). Fetched x rest (byte.Is b r') p') (sym e) (subst (λ (x : Rest). Fetched p x (byte.Is b r') p') (sym f) g);
+  fetched = subst (λ (x : List ℕ). Fetched x rest (Some (record { byte = b; rest = r' })) p') (sym e) (subst (λ (x : Rest). Fetched p x (Some (record { byte = b; rest = r' })) p') (sym f) g);
   further = (refl, refl);
 }
 taken_more piece rest (a ∷ bytes) p r b p' r' h g = record {
@@ -91,7 +90,6 @@ module _ (piece₀ : List ℕ) (rest₀ : Rest) (line₀ piece : List ℕ) (rest
       ap (λ (x : List ℕ). get_or x (m - 1) 0) is ∙ get_or-append f.bytes (drop (0 + m) line₀) 0 (m - 1) (omega arith)
 
   same_cut : length line ≡ line_room → m ≤ line_room → without_return line m ≡ without_return f.bytes m
-  unfolding without_return
   same_cut l s = at (ltb 0 m) refl
     where
       at : (t : Bool) → ltb 0 m ≡ t → (if both t (eqb (get_or line (m - 1) 0) 13) then m - 1 else m) ≡ (if both t (eqb (get_or f.bytes (m - 1) 0) 13) then m - 1 else m)
@@ -99,7 +97,6 @@ module _ (piece₀ : List ℕ) (rest₀ : Rest) (line₀ piece : List ℕ) (rest
       at false e = refl
 
   same_line : length line ≡ line_room → (rest' : Rest) → ended_line line n rest' ≡ ended_line f.bytes m rest'
-  unfolding ended_line
   same_line l rest' = at (ltb line_room m) refl
     where
       at : (t : Bool) → ltb line_room m ≡ t → ended_line line n rest' ≡ ended_line f.bytes m rest'
@@ -110,7 +107,7 @@ module _ (piece₀ : List ℕ) (rest₀ : Rest) (line₀ piece : List ℕ) (rest
       at false e =
           let s = ltb-false line_room m e in
           let q = f.short s in
-          ap (λ (k : ℕ). ended_line line k rest') q ∙ rw (e) (ap (λ (k : ℕ). next.Line k rest') (same_cut l s))
+          ap (λ (k : ℕ). ended_line line k rest') q ∙ rw (e) (ap (λ (k : ℕ). record { length = Some k; rest = rest' }) (same_cut l s))
 
   line_more : (b n' : ℕ) (line' : List ℕ) → PutIs line n b n' line' → line' ≡ sets line₀ 0 (take line_room (f.bytes ++ b ∷ []))
   line_more b n' line' p = at (ltb m line_room) refl
@@ -133,14 +130,20 @@ module _ (piece₀ : List ℕ) (rest₀ : Rest) (line₀ piece : List ℕ) (rest
           here ∙ f.holds ∙ ap (sets line₀ 0) (sym (take-append-le line_room f.bytes (b ∷ []) l))
 
   -- the next turn
-  module _ (q : Byte) (piece' : List ℕ) (g : Fetched piece rest q piece') (b : ℕ) (rest' : Rest) (e : q ≡ byte.Is b rest') where
-    fetched : Fetched piece rest (byte.Is b rest') piece'
-    fetched = subst (λ (x : Byte). Fetched piece rest x piece') e g
+  module _ (q : Option Byte) (piece' : List ℕ) (g : Fetched piece rest q piece') (next : Byte) (e : q ≡ Some next) where
+    abbrev b : ℕ
+    b = next.byte
 
-    pub filling_on : (b ≡ 10 → ⊥) → 0 < turns → (n' : ℕ) (line' : List ℕ) → PutIs line n b n' line' → Filling piece₀ rest₀ line₀ piece' rest' line' n' (turns - 1)
-    filling_on d z n' line' p =
+    abbrev rest' : Rest
+    rest' = next.rest
+
+    fetched : Fetched piece rest (Some (record { byte = b; rest = rest' })) piece'
+    fetched = subst (λ (x : Option Byte). Fetched piece rest x piece') e g
+
+    pub filling_on : (b ≡ 10 → ⊥) → (n' : ℕ) (line' : List ℕ) → PutIs line n b n' line' → Filling piece₀ rest₀ line₀ piece' rest' line' n' (turns + 1)
+    filling_on d n' line' p =
         let j = length-append f.bytes (b ∷ []) in
-        let left = f.left in
+        let turned = f.turned in
         record {
           bytes = f.bytes ++ b ∷ [];
           no_feed = plain_more f.bytes b f.no_feed (rw (ne_eqb b 10 d));
@@ -148,19 +151,19 @@ module _ (piece₀ : List ℕ) (rest₀ : Rest) (line₀ piece : List ℕ) (rest
           holds = line_more b n' line' p;
           short = λ h. (let s = f.short (omega arith) in let k : n < line_room = omega arith in let c : n' ≡ n + 1 = p.counts ∙ rw (lt-ltb n 131100 k) in omega arith);
           long = λ h. (let k = counted_past (omega arith) in p.counts ∙ rw (le-ltb n 131100 k));
-          left = omega arith;
+          turned = omega arith;
         }
 
     -- the line feed
-    pub ends_at_feed : b ≡ 10 → length line ≡ line_room → (r : Next) → r ≡ ended_line line n rest' → LineIs piece₀ rest₀ line₀ r piece' line
-    ends_at_feed d l r s = record {
+    pub ends_at_feed : b ≡ 10 → length line ≡ line_room → (r : Next) → r ≡ ended_line line n rest' → LineIs piece₀ rest₀ line₀ (Some r) piece' line
+    ends_at_feed d l r h = record {
       bytes = f.bytes;
       no_feed = f.no_feed;
       holds = f.holds;
       ends = inl (record {
         rest' = rest';
-        taken = taken_more piece₀ rest₀ f.bytes piece rest 10 piece' rest' f.taken (subst (λ (x : ℕ). Fetched piece rest (byte.Is x rest') piece') d fetched);
-        is = s ∙ same_line l rest';
+        taken = taken_more piece₀ rest₀ f.bytes piece rest 10 piece' rest' f.taken (subst (λ (x : ℕ). Fetched piece rest (Some (record { byte = x; rest = rest' })) piece') d fetched);
+        is = ap Some (h ∙ same_line l rest');
       });
     }
 
@@ -173,7 +176,6 @@ module _ (piece₀ : List ℕ) (rest₀ : Rest) (line₀ piece : List ℕ) (rest
       by false e = let q = f.short (ltb-false line_room m e) in d (omega arith)
 
   same_input : length line ≡ line_room → ended_input line n rest ≡ ended_input f.bytes m rest
-  unfolding ended_input
   same_input l = at (eqb m 0) refl
     where
       at : (t : Bool) → eqb m 0 ≡ t → ended_input line n rest ≡ ended_input f.bytes m rest
@@ -181,9 +183,9 @@ module _ (piece₀ : List ℕ) (rest₀ : Rest) (line₀ piece : List ℕ) (rest
           let z = eqb-true m 0 e in
           let s = f.short (omega arith) in
           rw (eq-eqb n 0 (let u : n ≡ 0 = omega arith in u), e)
-      at false e = rw (ne_eqb n 0 (some (eqb-false m 0 e)), e) (same_line l rest)
+      at false e = rw (ne_eqb n 0 (some (eqb-false m 0 e)), e) (ap Some (same_line l rest))
 
-  pub ends_at_end : (q : Byte) (piece' : List ℕ) → Fetched piece rest q piece' → q ≡ byte.End → length line ≡ line_room → (r : Next) → r ≡ ended_input line n rest → LineIs piece₀ rest₀ line₀ r piece' line
+  pub ends_at_end : (q : Option Byte) (piece' : List ℕ) → Fetched piece rest q piece' → q ≡ None → length line ≡ line_room → (r : Option Next) → r ≡ ended_input line n rest → LineIs piece₀ rest₀ line₀ r piece' line
   ends_at_end q piece' g e l r s = record {
     bytes = f.bytes;
     no_feed = f.no_feed;
@@ -192,64 +194,48 @@ module _ (piece₀ : List ℕ) (rest₀ : Rest) (line₀ piece : List ℕ) (rest
       last = piece;
       rest' = rest;
       taken = f.taken;
-      over = subst (λ (x : Byte). Fetched piece rest x piece') e g;
+      over = subst (λ (x : Option Byte). Fetched piece rest x piece') e g;
       is = s ∙ same_input l;
     }));
   }
 
   -- no turn is left
-  pub ends_late : turns ≤ 0 → LineIs piece₀ rest₀ line₀ next.End piece line
-  ends_late z = let left = f.left in record { bytes = f.bytes; no_feed = f.no_feed; holds = f.holds; ends = inr (inr (omega arith, refl)) }
+  pub ends_late : all_turns ≤ turns → turns ≤ all_turns → LineIs piece₀ rest₀ line₀ None piece line
+  ends_late h k = let turned = f.turned in record { bytes = f.bytes; no_feed = f.no_feed; holds = f.holds; ends = inr (inr (omega arith, refl)) }
 
 -- What is given as a line is the bytes up to the line feed or the end of the input, without a carriage return at their end.
-abbrev length_of : Next → ℕ
-length_of (next.Line n rest) = n + 1
-length_of (next.TooLong rest) = 0
-length_of next.End = 0
-
 abbrev IsLine : (bytes : List ℕ) (n : ℕ) → Type 0
 IsLine bytes n = (n ≡ without_return bytes (length bytes)) × (length bytes ≤ line_room)
 
 module _ (bytes : List ℕ) (rest rest' : Rest) (n : ℕ) where
-  ended_line_lem : next.Line n rest ≡ ended_line bytes (length bytes) rest' → IsLine bytes n
-  unfolding ended_line
-  ended_line_lem e = at (ltb line_room (length bytes)) refl
-    where
-      at : (t : Bool) → ltb line_room (length bytes) ≡ t → IsLine bytes n
-      at true h = let g : next.Line n rest ≡ next.TooLong rest' = rw h at e in let z : n + 1 ≡ 0 = ap length_of g in absurd (omega arith)
-      at false h =
-          let g : next.Line n rest ≡ next.Line (without_return bytes (length bytes)) rest' = rw h at e in
-          let z : n + 1 ≡ without_return bytes (length bytes) + 1 = ap length_of g in
-          (omega arith, ltb-false line_room (length bytes) h)
+  ended_line_lem : Some (record { length = Some n; rest = rest }) ≡ Some (ended_line bytes (length bytes) rest') → IsLine bytes n
+  ended_line_lem e = grind (arith, common_steps)
 
-  ended_input_lem : next.Line n rest ≡ ended_input bytes (length bytes) rest' → IsLine bytes n
-  unfolding ended_input
+  ended_input_lem : Some (record { length = Some n; rest = rest }) ≡ ended_input bytes (length bytes) rest' → IsLine bytes n
   ended_input_lem e = at (eqb (length bytes) 0) refl
     where
       at : (t : Bool) → eqb (length bytes) 0 ≡ t → IsLine bytes n
-      at true h = let g : next.Line n rest ≡ next.End = rw h at e in let z : n + 1 ≡ 0 = ap length_of g in absurd (omega arith)
+      at true h = let g : Some (record { length = Some n; rest = rest }) ≡ None = rw h at e in cc
       at false h = ended_line_lem (rw h at e)
 
 cut_shorter : (bytes : List ℕ) (n : ℕ) → without_return bytes n ≤ n
-unfolding without_return
 cut_shorter bytes n = at (both (ltb 0 n) (eqb (get_or bytes (n - 1) 0) 13))
   where
     at : (t : Bool) → (if t then n - 1 else n) ≤ n
     at true = omega arith
     at false = omega arith
 
-module _ (piece : List ℕ) (rest : Rest) (line : List ℕ) (r : Next) (piece' line' : List ℕ) (g : LineIs piece rest line r piece' line') (l : length line ≡ line_room) where
+module _ (piece : List ℕ) (rest : Rest) (line : List ℕ) (r : Option Next) (piece' line' : List ℕ) (g : LineIs piece rest line r piece' line') (l : length line ≡ line_room) where
   abbrev k : ℕ
   k = length g.bytes
 
-  pub line_given : (n : ℕ) (rest' : Rest) → r ≡ next.Line n rest' → first_of line' n ≡ take (without_return g.bytes k) g.bytes
-  unfolding first_of
+  pub line_given : (n : ℕ) (rest' : Rest) → r ≡ Some (record { length = Some n; rest = rest' }) → first_of line' n ≡ take (without_return g.bytes k) g.bytes
   line_given n rest' e = by (is g.ends)
     where
-      is : AtFeed piece rest g.bytes r piece' ⊎ (AtEnd piece rest g.bytes r piece' ⊎ ((k ≡ all_turns) × (r ≡ next.End))) → IsLine g.bytes n
+      is : AtFeed piece rest g.bytes r piece' ⊎ (AtEnd piece rest g.bytes r piece' ⊎ ((k ≡ all_turns) × (r ≡ None))) → IsLine g.bytes n
       is (inl a) = ended_line_lem g.bytes rest' a.rest' n (sym e ∙ a.is)
       is (inr (inl a)) = ended_input_lem g.bytes rest' a.rest' n (sym e ∙ a.is)
-      is (inr (inr a)) = let z : n + 1 ≡ 0 = ap length_of (sym e ∙ a.1) in absurd (omega arith)
+      is (inr (inr a)) = let z : Some (record { length = Some n; rest = rest' }) ≡ None = sym e ∙ a.1 in cc
 
       by : IsLine g.bytes n → first_of line' n ≡ take (without_return g.bytes k) g.bytes
       by (m, s) =

@@ -1,6 +1,4 @@
 -- Laws of what the trace says, of what stands in a line, and of how lines come in.
 pub mod Tracing
-pub mod Trimming
 pub mod Text
-pub mod Input
 pub mod Filling

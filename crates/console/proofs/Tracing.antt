@@ -7,15 +7,11 @@ use native.Mathlib.Omega.{arith}
 use lib.Dec.{eqb, ltb, leb}
 use lib.ListN.{length}
 use borrow.Author.Tests.{eq-eqb, ne_eqb, ltb-true, ltb-false, lt-ltb, le-ltb, leb-true, leb-false}
-use Rattle.meaning.specs.Answers.{number, stack_numbers}
-use Rattle.meaning.specs.Basics.{nothing, just}
-use Rattle.std.specs.Prelude.{if◌then◌else◌}
+use Rattle.meaning.specs.Answers.{StackAnswer, stack_numbers}
+use Rattle.std.specs.Prelude.{if◌then◌else◌, Ok, Err, is_ok, None, Some}
 use Rattle.meaning.specs.Calls.{State, check_state, StackCall, stack_refused, stack_right, stack_call}
 use Rattle.meaning.specs.TableRight.{table_ok}
-use Rattle.meaning.specs.declared.Refusal.{Refusal}
 use Rattle.meaning.specs.declared.Refusal.TheVariants.{WrongTable}
-use Rattle.meaning.specs.declared.StackAnswer.{StackAnswer}
-use Rattle.meaning.specs.declared.StackAnswer.TheVariants.{Read, Refused}
 use Rattle.meaning.specs.declared.StackNumbers.{StackNumbers}
 use Rattle.meaning.proofs.Booleans.{not_no, not_yes}
 use Rattle.meaning.proofs.Settled.{number_range}
@@ -38,13 +34,18 @@ read_if ok s i = if not ok then stack_refused no_entries.list WrongTable else ch
 answers_there : (ok : Bool) (s : State) (i : ℕ) → eqb (read_if ok s i).says.answer 0 ≡ ltb i (left_if ok s)
 unfolding stack_right
 answers_there false s i = sym (le-ltb i 0 (omega arith))
-answers_there true nothing i = sym (le-ltb i 0 (omega arith))
-answers_there true (just []) i = sym (le-ltb i 0 (omega arith))
-answers_there true (just (r ∷ rs)) i = at (leb (length (r ∷ rs)) i) refl
+answers_there true None i = sym (le-ltb i 0 (omega arith))
+answers_there true (Some []) i = sym (le-ltb i 0 (omega arith))
+answers_there true (Some (r ∷ rs)) i = at (leb (length (r ∷ rs)) i) refl
   where
     at : (b : Bool) → leb (length (r ∷ rs)) i ≡ b → eqb (stack_right (r ∷ rs) i no_entries.list).says.answer 0 ≡ ltb i (length (r ∷ rs))
     at true e = rw (e, le-ltb i (length (r ∷ rs)) (leb-true (length (r ∷ rs)) i e))
     at false e = rw (e, lt-ltb i (length (r ∷ rs)) (leb-false (length (r ∷ rs)) i e))
+
+-- an answer is 0 exactly where it is no refusal
+ok_is_0 : (a : StackAnswer) → is_ok a ≡ eqb (stack_numbers a).answer 0
+ok_is_0 (Ok s) = refl
+ok_is_0 (Err k) = let l = (number_range k).0 in sym (ne_eqb (stack_numbers (Err k)).answer 0 (λ z. omega arith))
 
 module _ (table state : List ℕ) (long : length state ≡ state_len) (i : ℕ) (r : StackRead) (p : ReadPromise (stack_on (lists_right state 64) table state i) r) where
   right : lists_right state 64 ≡ true
@@ -57,14 +58,8 @@ module _ (table state : List ℕ) (long : length state ≡ state_len) (i : ℕ) 
       ap (λ (n : StackNumbers). eqb n.answer 0) (p.answers ∙ ap (λ (b : Bool). (stack_on b table state i no_entries.list).says) right)
       ∙ answers_there (table_ok table) (state_for table state) i
 
-  pub reading_there : (height mark : ℕ) → r.answer ≡ Read height mark → true ≡ ltb i (readings_left table state)
-  reading_there height mark e = sym (ap (λ (q : StackAnswer). eqb (stack_numbers q).answer 0) e) ∙ told
-
-  pub no_reading_lem : (k : Refusal) → r.answer ≡ Refused k → false ≡ ltb i (readings_left table state)
-  no_reading_lem k e = sym (ap (λ (q : StackAnswer). eqb (stack_numbers q).answer 0) e ∙ none k) ∙ told
-    where
-      none : (j : Refusal) → eqb (number j) 0 ≡ false
-      none j = let l = (number_range j).0 in ne_eqb (number j) 0 (λ z. omega arith)
+  pub reading_there : is_ok r.answer ≡ ltb i (readings_left table state)
+  reading_there = ok_is_0 r.answer ∙ told
 
 -- There are never more than 16.
 pub few_left : (table state : List ℕ) → readings_left table state ≤ 16
@@ -73,8 +68,8 @@ few_left table state = at (table_ok table) (state_for table state) refl
   where
     at : (ok : Bool) (s : State) → state_for table state ≡ s → left_if ok s ≤ 16
     at false s e = omega arith
-    at true nothing e = omega arith
-    at true (just rs) e = (found_holds table state rs e).facts.few
+    at true None e = omega arith
+    at true (Some rs) e = (found_holds table state rs e).facts.few
 
 -- The count so far: the readings below it are there; the first that is not ends it.
 module _ (left i : ℕ) (h : i ≤ left) (b : Bool) (e : b ≡ ltb i left) where
@@ -84,5 +79,5 @@ module _ (left i : ℕ) (h : i ≤ left) (b : Bool) (e : b ≡ ltb i left) where
   pub counted_all : not b ≡ true → i ≡ left
   counted_all f = let l = ltb-false i left (sym e ∙ not_yes b f) in omega arith
 
-pub counted_16 : (table state : List ℕ) (i : ℕ) → i ≤ readings_left table state → 16 ≤ i → i ≡ readings_left table state
+pub counted_16 : (table state : List ℕ) (i : ℕ) → i ≤ readings_left table state → 16 ≤ i → 16 ≡ readings_left table state
 counted_16 table state i h l = let few = few_left table state in omega arith

@@ -17,5 +17,5 @@ readings_left table state = checked true table (state_for table state) (λ k. 0)
 pub record TracedIs (table state work : List ℕ) (x : Term) (r : Traced) (state' work' : List ℕ) : Type 0 where
   pub run : FeedRun
   pub promise : RunPromise table state work x max_errors run state' work'
-  pub says : record { answer = r.answer; errors = r.errors; walked = r.walked } ≡ feed_numbers run.answer
+  pub says : r.numbers ≡ feed_numbers run.answer
   pub readings : r.readings ≡ readings_left table state'

@@ -14,6 +14,9 @@ pub const PIECE: usize = 65536;
 
 pub const LINE: usize = 131100;
 
+// What ends a line.
+const FEED: u8 = b'\n';
+
 // What of the piece is still to be read.
 #[derive(Clone, Copy)]
 pub struct Rest {
@@ -21,30 +24,25 @@ pub struct Rest {
     end: usize,
 }
 
+// A byte of the input, and what is left behind it.
 #[derive(Clone, Copy)]
-enum Byte {
-    Is { byte: u8, rest: Rest },
-    End,
+struct Byte {
+    byte: u8,
+    rest: Rest,
 }
 
-// A line of so many bytes, one that is too long for its place, or the end of the input.
+// A line of so many bytes, or one that is too long for its place, and what is left behind it.
 #[derive(Clone, Copy)]
-pub enum Next {
-    Line { length: usize, rest: Rest },
-    TooLong { rest: Rest },
-    End,
+pub struct Next {
+    pub length: Option<usize>,
+    pub rest: Rest,
 }
 
 // The first n bytes; none where there are fewer.
-#[tactic(auto, using(crate::proofs::Text::first_some, crate::proofs::Text::first_none))]
 pub fn first(bytes: &[u8], n: usize) -> &[u8]
     ensures { result.now ≡ first_of bytes.now n }
 {
-    if n <= bytes.len() {
-        &bytes[..n]
-    } else {
-        &bytes[..0]
-    }
+    bytes.get(..n).unwrap_or(&[])
 }
 
 // Before the first piece is read.
@@ -55,50 +53,40 @@ pub fn nothing() -> Rest
 }
 
 // The first byte of a piece of which so many bytes were read.
-#[tactic(auto, using(crate::proofs::Input::begun_end, crate::proofs::Input::begun_byte))]
-fn begun(piece: &Piece, end: usize) -> Byte
+fn begun(piece: &Piece, end: usize) -> Option<Byte>
     ensures { result ≡ begun_by piece.now end }
 {
     if end == 0 {
-        return Byte::End;
+        return None;
     }
-    Byte::Is {
+    Some(Byte {
         byte: piece[0],
         rest: Rest { at: 1, end },
-    }
+    })
 }
 
 // The next piece's first byte. What cannot be read counts as the end of the input.
-#[tactic(auto, using(crate::proofs::Input::refilled))]
-fn refill(rt: &HostRuntime, piece: &mut Piece) -> Byte
+fn refill(rt: &HostRuntime, piece: &mut Piece) -> Option<Byte>
     ensures { Refilled piece.new result }
 {
-    let end = rt.stdin().read(&mut *piece).unwrap_or(0);
+    let end = rt.stdin().read(piece).unwrap_or(0);
     begun(piece, end)
 }
 
-#[tactic(auto, using(crate::proofs::Input::piece_over, crate::proofs::Input::piece_past, crate::proofs::Input::piece_there))]
-fn next_byte(rt: &HostRuntime, piece: &mut Piece, rest: Rest) -> Byte
+fn next_byte(rt: &HostRuntime, piece: &mut Piece, rest: Rest) -> Option<Byte>
     ensures { Fetched piece.old rest result piece.new }
 {
     let at = rest.at;
-    if rest.end <= at {
+    if rest.end <= at || PIECE <= at {
         return refill(rt, piece);
     }
-    if PIECE <= at {
-        return refill(rt, piece);
-    }
-    Byte::Is {
+    Some(Byte {
         byte: piece[at],
-        rest: Rest {
-            at: at + 1,
-            end: rest.end,
-        },
-    }
+        rest: Rest { at: at + 1, ..rest },
+    })
 }
 
 // A line too long for its place is cut, and counts one byte more than the place has.
-#[tactic(auto, using(crate::proofs::Input::put_there, crate::proofs::Input::put_past))]
 fn put(line: &mut Line, length: usize, byte: u8) -> usize
     ensures { PutIs line.old length byte result line.new }
 {
@@ -110,65 +98,44 @@ fn put(line: &mut Line, length: usize, byte: u8) -> usize
 }
 
 // How long a line is without a carriage return at its end, which some systems put before the line feed.
-#[tactic(auto, using(crate::proofs::Input::nothing_cut, crate::proofs::Input::return_cut, crate::proofs::Input::no_return, crate::proofs::Input::past_line))]
 fn without_return(line: &[u8], length: usize) -> usize
     ensures { result ≡ without_return line.now length }
 {
-    if length == 0 {
-        return length;
+    match first(line, length) {
+        [.., b'\r'] => length - 1,
+        _ => length,
     }
-    let last = length - 1;
-    if last < line.len() {
-        if line[last] == b'\r' {
-            return last;
-        }
-    }
-    length
 }
 
-#[tactic(auto, using(crate::proofs::Input::line_too_long, crate::proofs::Input::line_is))]
 fn ended_line(line: &[u8], length: usize, rest: Rest) -> Next
     ensures { result ≡ ended_line line.now length rest }
 {
-    if length > LINE {
-        return Next::TooLong { rest };
-    }
-    Next::Line {
-        length: without_return(line, length),
-        rest,
-    }
+    let length = (length <= LINE).then(|| without_return(line, length));
+    Next { length, rest }
 }
 
 // The last line may lack its end.
-#[tactic(auto, using(crate::proofs::Input::input_over, crate::proofs::Input::input_line))]
-fn ended_input(line: &[u8], length: usize, rest: Rest) -> Next
+fn ended_input(line: &[u8], length: usize, rest: Rest) -> Option<Next>
     ensures { result ≡ ended_input line.now length rest }
 {
-    if length == 0 {
-        return Next::End;
-    }
-    ended_line(line, length, rest)
+    (length != 0).then(|| ended_line(line, length, rest))
 }
 
-// The next line, without its end. A proved loop has to end, and nothing says that the input does: the loop counts down from a number that no run uses up.
-pub fn next_line(rt: &HostRuntime, piece: &mut Piece, rest: Rest, line: &mut Line) -> Next
+// The next line, without its end; none at the end of the input. A proved loop has to end, and nothing says that the input does: the loop has more turns than any run uses up.
+pub fn next_line(rt: &HostRuntime, piece: &mut Piece, rest: Rest, line: &mut Line) -> Option<Next>
     ensures { LineIs piece.old rest line.old result piece.new line.new }
 {
     let mut rest = rest;
-    let mut length: usize = 0;
-    let mut turns = u64::MAX;
-    while turns > 0 {
-        match next_byte(rt, &mut *piece, rest) {
-            Byte::End => return ended_input(line, length, rest),
-            Byte::Is { byte, rest: after } => {
-                rest = after;
-                if byte == b'\n' {
-                    return ended_line(line, length, rest);
-                }
-                length = put(&mut *line, length, byte);
-            }
+    let mut length = 0;
+    for _ in 0..u64::MAX {
+        let Some(next) = next_byte(rt, piece, rest) else {
+            return ended_input(line, length, rest);
+        };
+        rest = next.rest;
+        if next.byte == FEED {
+            return Some(ended_line(line, length, rest));
         }
-        turns -= 1;
+        length = put(line, length, next.byte);
     }
-    Next::End
+    None
 }

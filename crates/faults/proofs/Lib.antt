@@ -1,4 +1,3 @@
--- The laws: of the functions without a loop, of the loops, and that the diagnosis agrees with the check.
-mod TestLaws
+-- The laws: of the loops, and that the diagnosis agrees with the check.
 mod LoopLaws
 mod Agreeing

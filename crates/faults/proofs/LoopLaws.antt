@@ -1,125 +1,124 @@
 -- Laws of the loops: what is left decides. Assumes nothing.
 use mathlib.Core.Path.{◌≡◌, refl, ap, sym, ◌∙◌}
-use mathlib.Core.Bool.{Bool, true, false}
 use mathlib.Core.List.{List, [], ◌∷◌}
-use Prim.Native.Nat.{ℕ, zero, suc, ◌+◌, ◌-◌, ◌<◌, ◌≤◌}
+use Prim.Native.Nat.{ℕ, suc, ◌+◌, ◌-◌, ◌*◌, ◌<◌, ◌≤◌}
 use native.Mathlib.Omega.{arith}
 use lib.Dec.{ltb, leb}
-use borrow.Author.Tests.{lt-ltb, le-ltb}
-use Rattle.std.specs.Prelude.{if◌then◌else◌}
+use Rattle.std.proofs.Common.{Ok, Err}
 use Rattle.meaning.specs.Bytes.{u16_at}
-use Rattle.meaning.specs.TableFile.{rule_at, places, action_at, action_size, goto_at}
-use Rattle.meaning.specs.TableRight.{Format, key_of, fits, pair, action_format, goto_format}
+use Rattle.meaning.specs.TableFile.{rule_at, places}
+use Rattle.meaning.specs.TableRight.{Format, key_of, fits, pair}
 use Rattle.meaning.specs.declared.Counts.{Counts}
 use Rattle.meaning.specs.declared.Rule.{Rule}
-use Rattle.faults.specs.Verdicts.{holds, first, recorded}
+use Rattle.table.specs.Records.{placed, RecordLaws}
+use Rattle.table.proofs.Sought.{kind_key, kind_size}
+use Rattle.table.proofs.Fields.{places_end, places_more}
+use Rattle.faults.specs.Verdicts.{Verdict, first, tested, one_of}
 use Rattle.faults.specs.Rules.{rule_fault, rules_fault}
-use Rattle.faults.specs.Records.{reductions_fault, action_fault, goto_fault, in_field, records_fault, field_fault, actions_fault, gotos_fault}
-use Rattle.faults.specs.declared.Verdict.{Verdict}
-use Rattle.faults.specs.declared.Verdict.TheVariants.{Right}
-use Rattle.faults.specs.declared.Fault.TheVariants.{UnknownRule}
-use Rattle.faults.proofs.TestLaws.{first_holds, first_names}
+use Rattle.faults.specs.Records.{reductions_fault, in_field, records_fault, field_fault}
+use Rattle.faults.specs.declared.Broken.{Broken}
+use Rattle.faults.specs.declared.Place.{Place}
+use Rattle.faults.specs.declared.Fault.TheVariants.{UnknownRule, PastField, NotAscending}
+
+-- The first of two, where it is known what the one before says.
+module _ (v rest w : Verdict) (so : first v rest ≡ w) where
+  pub goes_on : (u : Unit {0}) → v ≡ Ok u → rest ≡ w
+  goes_on u e = rw e at so
+
+  pub stops : (b : Broken) → v ≡ Err b → w ≡ Err b
+  stops b e = sym (rw e at so)
 
 -- Rules.
-pub rules_start : (c : Counts) (n : ℕ) (s : List ℕ) (p : ℕ) → rules_fault c (n - 0) s 0 p ≡ rules_fault c n s 0 p
-rules_start c n s p = ap (λ m. rules_fault c m s 0 p) (omega arith)
-
-module _ (c : Counts) (n : ℕ) (s : List ℕ) (i p : ℕ) (w : Verdict) (so : rules_fault c (n - i) s i p ≡ w) where
-  pub rules_end : n ≤ i → Right ≡ w
+module _ (c : Counts) (n : ℕ) (s : List ℕ) (i p : ℕ) (w : Verdict) (so : rules_fault c (n - i) s i (p + 17 * i) ≡ w) where
+  pub rules_end : n ≤ i → Ok tt ≡ w
   unfolding rules_fault
-  rules_end h = let e : n - i ≡ 0 = omega arith in ap (λ m. rules_fault c m s i p) (sym e) ∙ so
+  rules_end h = let e : n - i ≡ 0 = omega arith in ap (λ m. rules_fault c m s i (p + 17 * i)) (sym e) ∙ so
 
-  module _ (r : Rule) (v : Verdict) (t : Bool) (h : i < n) (e : r ≡ rule_at s p) (f : v ≡ rule_fault c r i p) (g : t ≡ holds v) where
-    rules_first : rules_fault c (n - i) s i p ≡ first v (rules_fault c (n - (i + 1)) s (i + 1) (p + 17))
-    unfolding rules_fault
-    rules_first = let u : n - i ≡ suc (n - (i + 1)) = omega arith in
-        ap (λ m. rules_fault c m s i p) u ∙ rw (f, e)
-
-    pub rules_more : t ≡ true → rules_fault c (n - (i + 1)) s (i + 1) (p + 17) ≡ w
-    rules_more k = first_holds v _ t g k ∙ sym rules_first ∙ so
-
-    pub rules_bad : t ≡ false → v ≡ w
-    rules_bad k = first_names v _ t g k ∙ sym rules_first ∙ so
+  pub rules_first : (r : Rule) (v : Verdict) → i < n → r ≡ rule_at s (p + 17 * i) → v ≡ rule_fault c r (one_of 2 i) (p + 17 * i) →
+      first v (rules_fault c (n - (i + 1)) s (i + 1) (p + 17 * (i + 1))) ≡ w
+  unfolding rules_fault
+  rules_first r v h e f =
+      let u : n - i ≡ suc (n - (i + 1)) = omega arith in
+      let q : p + 17 * (i + 1) ≡ p + 17 * i + 17 = omega arith in
+      rw (q, f, e) (sym (ap (λ m. rules_fault c m s i (p + 17 * i)) u) ∙ so)
 
 -- The rules of an action record.
-module _ (m n : ℕ) (s : List ℕ) (i p : ℕ) (w : Verdict) (so : reductions_fault m n s i p ≡ w) where
-  pub reductions_end : n ≤ 0 → Right ≡ w
+module _ (m n : ℕ) (s : List ℕ) (place : Place) (p k : ℕ) (w : Verdict) (so : reductions_fault m (n - k) s place (p + 2 * k) ≡ w) where
+  pub reductions_end : n ≤ k → Ok tt ≡ w
   unfolding reductions_fault
-  reductions_end h = let e : n ≡ 0 = omega arith in ap (λ l. reductions_fault m l s i p) (sym e) ∙ so
+  reductions_end h = let e : n - k ≡ 0 = omega arith in ap (λ l. reductions_fault m l s place (p + 2 * k)) (sym e) ∙ so
 
-  module _ (k : ℕ) (h : 0 < n) (e : k ≡ u16_at s p) where
-    reductions_first : reductions_fault m n s i p ≡ first (recorded (ltb k m) UnknownRule 3 i p) (reductions_fault m (n - 1) s i (p + 2))
-    unfolding reductions_fault
-    reductions_first = let u : n ≡ suc (n - 1) = omega arith in
-        ap (λ l. reductions_fault m l s i p) u ∙ rw e
-
-    pub reductions_more : k < m → reductions_fault m (n - 1) s i (p + 2) ≡ w
-    reductions_more b = rw (lt-ltb k m b) at (sym reductions_first ∙ so)
-
-    pub reductions_bad : (v : Verdict) → m ≤ k → v ≡ recorded false UnknownRule 3 i p → v ≡ w
-    reductions_bad v b f = f ∙ (rw (le-ltb k m b) at (sym reductions_first ∙ so))
-
--- Places: the fuel does not matter where there is enough.
-module _ (size : ℕ → ℕ) (some : (p : ℕ) → 0 < size p) (e : ℕ) where
-  places_end : (f at : ℕ) → e ≤ at → places size f at e ≡ []
-  unfolding places
-  places_end zero at h = refl
-  places_end (suc f) at h = rw (le-ltb at e h)
-
-  places_fuel : (f g at : ℕ) → e - at ≤ f → e - at ≤ g → places size f at e ≡ places size g at e
-  unfolding places
-  places_fuel zero g at h i = sym (places_end g at (omega arith))
-  places_fuel (suc f) zero at h i = places_end (suc f) at (omega arith)
-  places_fuel (suc f) (suc g) at h i =
-      let z : 0 < size at = some at in
-      ap (λ l. if ltb at e then at ∷ l else []) (places_fuel f g (at + size at) (omega arith) (omega arith))
-
-  places_more : (at : ℕ) → at < e → places size (e - at) at e ≡ at ∷ places size (e - (at + size at)) (at + size at) e
-  unfolding places
-  places_more at h =
-      let z : 0 < size at = some at in
-      let u : e - at ≡ suc (e - at - 1) = omega arith in
-      ap (λ f. places size f at e) u ∙ rw (lt-ltb at e h) (ap (λ l. at ∷ l) (places_fuel (e - at - 1) (e - (at + size at)) (at + size at) (omega arith) (omega arith)))
+  pub reductions_first : (x : ℕ) (v : Verdict) → k < n → x ≡ u16_at s (p + 2 * k) → v ≡ tested (ltb x m) UnknownRule place (p + 2 * k) →
+      first v (reductions_fault m (n - (k + 1)) s place (p + 2 * (k + 1))) ≡ w
+  unfolding reductions_fault
+  reductions_first x v h e f =
+      let u : n - k ≡ suc (n - (k + 1)) = omega arith in
+      let q : p + 2 * (k + 1) ≡ p + 2 * k + 2 = omega arith in
+      rw (q, f, e) (sym (ap (λ l. reductions_fault m l s place (p + 2 * k)) u) ∙ so)
 
 -- The records of a field.
-module _ {X : Type 0} (F : Format X) (field : ℕ) (one : ℕ → ℕ → Verdict) (e low i at : ℕ) where
-  field_end : e ≤ at → field_fault F field one e low i at ≡ Right
+first_first : (a b c : Verdict) → first (first a b) c ≡ first a (first b c)
+first_first (Ok u) b c = refl
+first_first (Err e) b c = refl
+
+module _ (F : Format ℕ) (field : ℕ) (one : Place → ℕ → Verdict) (e low i at : ℕ) (w : Verdict) (so : field_fault F field one e low i at ≡ w) where
+  pub field_end : e ≤ at → Ok tt ≡ w
   unfolding field_fault records_fault
-  field_end h = ap (records_fault F field one e low i) (places_end F.size F.some e (e - at) at h)
+  field_end h = sym (ap (records_fault F field one e low i) (places_end F.size F.some e (e - at) at h)) ∙ so
 
-  field_first : at < e →
-      field_fault F field one e low i at ≡
-      first (in_field (one i at) field (fits F e at) (leb low (key_of F (F.decode at))) i at)
-      (field_fault F field one e (key_of F (F.decode at) + 1) (i + 1) (at + F.size at))
-  unfolding field_fault records_fault
-  field_first h = ap (records_fault F field one e low i) (places_more F.size F.some e at h)
+  -- past, right and order: what the three tests of a record say
+  pub field_first : (past : Verdict) (next : ℕ) → at < e → next ≡ at + F.size at → past ≡ tested (leb next e) PastField (one_of field i) at →
+      first past (first (one (one_of field i) at) (first (tested (leb low (key_of F (F.decode at))) NotAscending (one_of field i) at) (field_fault F field one e (key_of F (F.decode at) + 1) (i + 1) next))) ≡ w
+  unfolding field_fault records_fault in_field
+  field_first past next h j a =
+      rw (a, j)
+      (sym (first_first (tested (fits F e at) PastField (one_of field i) at) _ _ ∙ ap (first (tested (fits F e at) PastField (one_of field i) at)) (first_first (one (one_of field i) at) _ _))
+      ∙ sym (ap (records_fault F field one e low i) (places_more F.size F.some e at h)) ∙ so)
 
-module _ (s : List ℕ) (c : Counts) (e low i at : ℕ) (w : Verdict) where
-  pub actions_end : actions_fault s c e low i at ≡ w → e ≤ at → Right ≡ w
-  actions_end so h = sym (field_end (action_format s c) 3 (action_fault s c) e low i at h) ∙ so
+-- The loop over them, for a kind of record told by the place: the ways out by its three tests, and the next record.
+module _ (size : List ℕ → ℕ → ℕ) (format : List ℕ → Counts → Format ℕ) (laws : RecordLaws size format) (s : List ℕ) (c : Counts)
+    (field : ℕ) (one : Place → ℕ → Verdict) (e low i at : ℕ) (w : Verdict) (so : field_fault (format s c) field one e low i at ≡ w)
+    (x : ℕ) (past : Verdict) (h : at < e) (j : x ≡ size s at) (a : past ≡ tested (leb (at + x) e) PastField (one_of field i) at) where
+  abbrev key : ℕ
+  key = key_of (format s c) ((format s c).decode at)
 
-  pub gotos_end : gotos_fault s c e low i at ≡ w → e ≤ at → Right ≡ w
-  gotos_end so h = sym (field_end (goto_format s c) 4 (goto_fault s c) e low i at h) ∙ so
+  abbrev order_of : Verdict
+  order_of = tested (leb low key) NotAscending (one_of field i) at
 
-  module _ (k : ℕ) (right v : Verdict) (t : Bool) (h : at < e) (f : k ≡ pair (u16_at s at) (u16_at s (at + 2))) (g : t ≡ holds v) where
-    module _ (so : actions_fault s c e low i at ≡ w) (x : ℕ) (j : x ≡ action_size s at) (q : right ≡ action_fault s c i at) (a : v ≡ in_field right 3 (leb (at + x) e) (leb low k) i at) where
-      actions_first : actions_fault s c e low i at ≡ first v (actions_fault s c e (k + 1) (i + 1) (at + x))
-      unfolding action_format key_of action_at
-      actions_first = field_first (action_format s c) 3 (action_fault s c) e low i at h ∙ rw (a, q, j, f)
+  abbrev rest : Verdict
+  rest = field_fault (format s c) field one e (key + 1) (i + 1) (at + x)
 
-      pub actions_more : t ≡ true → actions_fault s c e (k + 1) (i + 1) (at + x) ≡ w
-      actions_more b = first_holds v _ t g b ∙ sym actions_first ∙ so
+  one_first : first past (first (one (one_of field i) at) (first order_of rest)) ≡ w
+  one_first = field_first (format s c) field one e low i at w so past (at + x) h (ap (λ y. at + y) (kind_size size format laws s c at x j)) a
 
-      pub actions_bad : t ≡ false → v ≡ w
-      actions_bad b = first_names v _ t g b ∙ sym actions_first ∙ so
+  pub past_stops : (b : Broken) → past ≡ Err b → w ≡ Err b
+  past_stops = stops past (first (one (one_of field i) at) (first order_of rest)) w one_first
 
-    module _ (so : gotos_fault s c e low i at ≡ w) (q : right ≡ goto_fault s c i at) (a : v ≡ in_field right 4 (leb (at + 6) e) (leb low k) i at) where
-      gotos_first : gotos_fault s c e low i at ≡ first v (gotos_fault s c e (k + 1) (i + 1) (at + 6))
-      unfolding goto_format key_of goto_at
-      gotos_first = field_first (goto_format s c) 4 (goto_fault s c) e low i at h ∙ rw (a, q, f)
+  module _ (u : Unit {0}) (b : past ≡ Ok u) (right : Verdict) (f : right ≡ one (one_of field i) at) where
+    right_first : first (one (one_of field i) at) (first order_of rest) ≡ w
+    right_first = goes_on past (first (one (one_of field i) at) (first order_of rest)) w one_first u b
 
-      pub gotos_more : t ≡ true → gotos_fault s c e (k + 1) (i + 1) (at + 6) ≡ w
-      gotos_more b = first_holds v _ t g b ∙ sym gotos_first ∙ so
+    pub right_stops : (x : Broken) → right ≡ Err x → w ≡ Err x
+    right_stops x q = stops (one (one_of field i) at) (first order_of rest) w right_first x (sym f ∙ q)
 
-      pub gotos_bad : t ≡ false → v ≡ w
-      gotos_bad b = first_names v _ t g b ∙ sym gotos_first ∙ so
+    module _ (v : Unit {0}) (d : right ≡ Ok v) (k : ℕ) (l : k ≡ pair (u16_at s at) (u16_at s (at + 2))) (order : Verdict) (o : order ≡ tested (leb low k) NotAscending (one_of field i) at) where
+      order_first : first order rest ≡ w
+      order_first = rw (o, kind_key size format laws s c at k l) (goes_on (one (one_of field i) at) (first order_of rest) w right_first v (sym f ∙ d))
+
+      pub order_stops : (x : Broken) → order ≡ Err x → w ≡ Err x
+      order_stops = stops order rest w order_first
+
+      pub order_goes_on : (z : Unit {0}) → order ≡ Ok z → field_fault (format s c) field one e (k + 1) (i + 1) (at + x) ≡ w
+      order_goes_on z q = rw (kind_key size format laws s c at k l) (goes_on order rest w order_first z q)
+
+-- A kind of record told by the place breaks the same rules as the kind itself.
+module _ {X : Type 0} (F : Format X) (field : ℕ) (one : Place → ℕ → Verdict) (e : ℕ) where
+  placed_records : (low i : ℕ) (ps : List ℕ) → records_fault (placed F) field one e low i ps ≡ records_fault F field one e low i ps
+  unfolding records_fault key_of
+  placed_records low i [] = refl
+  placed_records low i (p ∷ ps) =
+      ap (first (in_field (one (one_of field i) p) (fits F e p) (leb low (key_of F (F.decode p))) (one_of field i) p)) (placed_records (key_of F (F.decode p) + 1) (i + 1) ps)
+
+  pub placed_fault : (low i at : ℕ) → field_fault (placed F) field one e low i at ≡ field_fault F field one e low i at
+  unfolding field_fault
+  placed_fault low i at = placed_records low i (places F.size (e - at) at e)

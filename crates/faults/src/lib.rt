@@ -3,20 +3,19 @@
 
 ghost use Rattle.std.specs.Prelude.{◌≡◌};
 ghost use Rattle.meaning.specs.TableFile.{view_of};
-ghost use Rattle.faults.specs.Verdicts.{holds, first, framed, recorded};
+ghost use Rattle.faults.specs.Verdicts.{tested, no_start};
 ghost use Rattle.faults.specs.Diagnosis.{faults_over, Diagnosed};
-ghost use Rattle.faults.specs.declared.Verdict.TheVariants.{Wrong};
-ghost use Rattle.faults.specs.declared.Fault.TheVariants.{NoStart};
 
-use table::Checked;
+use std::fmt;
+use table::actions::Actions;
+use table::gotos::Gotos;
 
 mod frame;
-mod reading;
 mod records;
 mod rules;
 
 // The rules of a table file, by what breaks them.
-#[derive(Clone, Copy)]
+#[derive(Clone, Copy, Debug, PartialEq, Eq)]
 pub enum Fault {
     TooLong,
     WrongTag,
@@ -50,102 +49,106 @@ pub enum Fault {
     NoStart,
 }
 
-// No rule is broken; or one is, in a field, at a byte of the file; or in a record of a field.
+impl fmt::Display for Fault {
+    fn fmt<W: fmt::Write>(&self, f: &mut fmt::Formatter<W>) -> fmt::Result {
+        f.write_str(match self {
+            Fault::TooLong => "more than 65536 bytes",
+            Fault::WrongTag => "not the tag of this field",
+            Fault::WrongLength => "not the length of this field",
+            Fault::FewStates => "no states",
+            Fault::ManyStates => "more than 512 states",
+            Fault::FewClasses => "fewer than 4 classes",
+            Fault::ManyClasses => "more than 64 classes",
+            Fault::FewNonterminals => "no nonterminals",
+            Fault::ManyNonterminals => "more than 64 nonterminals",
+            Fault::ManyRules => "more than 256 rules",
+            Fault::WrongFlag => "neither 0 nor 1",
+            Fault::WrongEnd => "the file does not end here",
+            Fault::UnknownLeftSide => "a left side that is no nonterminal",
+            Fault::ManyItems => "more than 15 items",
+            Fault::UnknownKind => "a kind above 3",
+            Fault::PickNotZero => "a pick that is not 0 in a Zero",
+            Fault::PickNoItem => "a pick that is none of the items",
+            Fault::LowNotZero => "a low that is not 0",
+            Fault::HighNotZero => "a high that is not 0",
+            Fault::LowAboveHigh => "a low above the high",
+            Fault::PastField => "the record goes past the field",
+            Fault::UnknownState => "a state that is not below the count",
+            Fault::UnknownClass => "a class that is not below the count",
+            Fault::UnknownNonterminal => "a nonterminal that is not below the count",
+            Fault::UnknownTarget => "a target that is no state",
+            Fault::UnknownRule => "a rule that is not below the count",
+            Fault::ManyReductions => "more than 4 rules",
+            Fault::NoAction => "neither a shift nor a rule",
+            Fault::NotAscending => "not above the record before it",
+            Fault::NoStart => "no shift of state 0 on class 2",
+        })
+    }
+}
+
+// The rule that is broken: in a field (0 is the file), in which record of it if it is one's, at a byte of the file.
+#[derive(Clone, Copy, Debug, PartialEq, Eq)]
+pub struct Broken {
+    pub fault: Fault,
+    pub field: u8,
+    pub record: Option<usize>,
+    pub byte: usize,
+}
+
+// Of what a rule is tested: a field (0 is the file), and which record of it if it is one's.
 #[derive(Clone, Copy)]
-pub enum Verdict {
-    Right,
-    Wrong {
-        fault: Fault,
-        field: u8,
-        byte: usize,
-    },
-    WrongRecord {
-        fault: Fault,
-        field: u8,
-        record: usize,
-        byte: usize,
-    },
+struct Place {
+    field: u8,
+    record: Option<usize>,
 }
 
-impl Verdict {
-    pub fn holds(self) -> bool
-        ensures { result ≡ holds self }
+// The file; `Place { field, ..FILE }` is a whole field.
+const FILE: Place = Place {
+    field: 0,
+    record: None,
+};
+
+impl Place {
+    // A test of one rule.
+    fn test(self, right: bool, fault: Fault, byte: usize) -> Result<(), Broken>
+        ensures { result ≡ tested right fault self byte }
     {
-        match self {
-            Verdict::Right => true,
-            Verdict::Wrong {
-                fault: _,
-                field: _,
-                byte: _,
-            } => false,
-            Verdict::WrongRecord {
-                fault: _,
-                field: _,
-                record: _,
-                byte: _,
-            } => false,
+        if right {
+            return Ok(());
         }
-    }
-}
-
-// The first of two that names a rule.
-fn first(a: Verdict, b: Verdict) -> Verdict
-    ensures { result ≡ first a b }
-{
-    if a.holds() {
-        return b;
-    }
-    a
-}
-
-// A test of the frame.
-fn framed(right: bool, fault: Fault, field: u8, byte: usize) -> Verdict
-    ensures { result ≡ framed right fault field byte }
-{
-    if right {
-        return Verdict::Right;
-    }
-    Verdict::Wrong { fault, field, byte }
-}
-
-// A test of a record.
-fn recorded(right: bool, fault: Fault, field: u8, record: usize, byte: usize) -> Verdict
-    ensures { result ≡ recorded right fault field «record» byte }
-{
-    if right {
-        return Verdict::Right;
-    }
-    Verdict::WrongRecord {
-        fault,
-        field,
-        record,
-        byte,
+        let Place { field, record } = self;
+        Err(Broken {
+            fault,
+            field,
+            record,
+            byte,
+        })
     }
 }
 
 // What the bytes of a wrong table break: the frame, else a record, else that state 0 shifts at class 2.
-fn broken(table: &[u8]) -> Verdict
-    ensures { result ≡ faults_over table.now (view_of table.now) (Wrong NoStart 3 (view_of table.now).actions.at) }
+fn first_broken(table: &[u8]) -> Result<(), Broken>
+    ensures { result ≡ faults_over table.now (view_of table.now) (no_start (view_of table.now)) }
 {
-    let view = reading::view_of(table);
-    let frame = frame::frame_fault(table, view);
-    let rules = rules::rules_fault(table, view.counts, view.rules.at);
-    let actions = records::actions_fault(table, view.counts, view.actions.at, view.actions.end);
-    let gotos = records::gotos_fault(table, view.counts, view.gotos.at, view.gotos.end);
-    let start = Verdict::Wrong {
+    let view = table::frame::view_of(table);
+    frame::frame_fault(table, view)?;
+    rules::rules_fault(table, view.counts, view.rules.at)?;
+    records::records_fault::<Actions>(table, view.counts, view.actions)?;
+    records::records_fault::<Gotos>(table, view.counts, view.gotos)?;
+    Err(Broken {
         fault: Fault::NoStart,
         field: 3,
+        record: None,
         byte: view.actions.at,
-    };
-    first(frame, first(rules, first(actions, first(gotos, start))))
+    })
 }
 
 // The diagnosis of any bytes: a rule is named exactly if the machine's check finds the table wrong.
-pub fn diagnose(table: &[u8]) -> Verdict
+pub fn diagnose(table: &[u8]) -> Result<(), Broken>
     ensures { Diagnosed table.now result }
 {
     match table::check_table(table) {
-        Checked::Right(_) => Verdict::Right,
-        Checked::Wrong => broken(table),
+        Some(_) => Ok(()),
+        None => first_broken(table),
     }
 }

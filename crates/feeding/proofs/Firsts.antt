@@ -4,17 +4,15 @@ use native.Mathlib.Omega.{arith}
 use mathlib.Core.Path.{◌≡◌, refl, sym, ap, ◌∙◌, subst}
 use mathlib.Core.Bool.{Bool, true, false}
 use mathlib.Core.List.{List, [], ◌∷◌, ◌++◌, reverse, append-nil, append_assoc}
-use Rattle.std.specs.Prelude.{if◌then◌else◌}
+use Rattle.std.specs.Prelude.{if◌then◌else◌, Ok}
 use Rattle.meaning.specs.Readings.{Reading, states}
-use Rattle.meaning.specs.TableFile.{Table, table_of}
+use Rattle.meaning.specs.TableFile.{Table}
 use Rattle.meaning.specs.Walk.{Walk, Walked, refused, walked, plan, ends}
 use Rattle.meaning.specs.Applying.{Applied, apply, joined, nothing_applied}
 use Rattle.meaning.specs.Feeding.{First as Meant, refuses, first}
 use Rattle.meaning.specs.declared.Refusal.{Refusal}
 use Rattle.meaning.specs.declared.Term.{Term}
-use Rattle.meaning.specs.declared.View.{View}
 use Rattle.meaning.proofs.Trees.{ends_chain, no_chain}
-use Rattle.table.specs.Answers.{Belongs}
 use Rattle.state.specs.Readings.{count_of, used_of, readings_from, readings_of}
 use Rattle.state.proofs.Births.{first_finds}
 use Rattle.state.proofs.Lists.{all_stand_kept}
@@ -22,25 +20,23 @@ use Rattle.actions.specs.Errors.{errors_from}
 use Rattle.actions.specs.Telling.{Area}
 use Rattle.taking.specs.declared.SoFar.{SoFar}
 use Rattle.feeding.specs.OnePass.{Pass as MeantPass, stopped, passed, on_walk, one_pass, first_of_pass}
-use Rattle.feeding.specs.Passing.{PassReady, Stops, Passes, PassIs, pass_from}
+use Rattle.feeding.specs.Passing.{PassReady, Passes, pass_from}
 use Rattle.feeding.specs.Ending.{EndReady, EndsWith, Waits, SettledIs, FirstReady, pass_over, MustRecover, Settles, FirstIs}
 use Rattle.feeding.specs.declared.Ended.{Ended}
 use Rattle.feeding.specs.declared.First.{First}
 use Rattle.feeding.specs.declared.First.TheVariants as at_first
-use Rattle.feeding.specs.declared.Pass.{Pass}
-use Rattle.feeding.specs.declared.Pass.TheVariants as pass
 use Rattle.feeding.proofs.OnePass.{one_pass_lem, counted}
+use Rattle.feeding.proofs.Turns.{Goes}
 
 abbrev begun : (used : ℕ) → SoFar
 begun used = record { counts = record { cells = used; results = 0; errors = 0 }; walked = 0; chains = 0 }
 
 -- The pass begins with no result, no error and no reading left.
-module _ (s : List ℕ) (view : View) (state w : List ℕ) (y : FirstReady s view state w) (used count : ℕ) (u : used ≡ used_of state) (c : count ≡ count_of state) where
-  pub pass_begins : PassReady s view state w count (begun used) 0
-  pass_begins =
+module _ (t : Table) (x : Term) (state w : List ℕ) (y : FirstReady state w) (used count : ℕ) (u : used ≡ used_of state) (c : count ≡ count_of state) where
+  begins_ready : PassReady state w count (begun used) 0
+  begins_ready =
       let few = y.few in let small = y.loaded.used in
       record {
-        belongs = y.belongs;
         stands =
             record {
               loaded = y.loaded;
@@ -57,11 +53,12 @@ module _ (s : List ℕ) (view : View) (state w : List ℕ) (y : FirstReady s vie
         budget = omega arith;
       }
 
-  pub pass_is : (x : Term) (w' : List ℕ) (r : Pass) → PassIs state w (pass_from (table_of s) x state w count (begun used) 0) w' r → PassIs state w (pass_over (table_of s) x state) w' r
+  begins_same : pass_from t x state w count (begun used) 0 ≡ pass_over t x state
   unfolding readings_from errors_from
-  pass_is x w' r h =
-      subst (λ (k : ℕ). PassIs state w (one_pass (table_of s) x (reverse (readings_from state 18432 0 (count_of state))) (nothing_applied k) [] 0 0) w' r) u
-      (subst (λ (k : ℕ). PassIs state w (one_pass (table_of s) x (reverse (readings_from state 18432 0 k)) (nothing_applied used) [] 0 0) w' r) c h)
+  begins_same = λ i. one_pass t x (reverse (readings_from state 18432 0 (c i))) (nothing_applied (u i)) [] 0 0
+
+  pub pass_begins : Goes t x state w count (begun used) 0
+  pass_begins = record { ready = begins_ready; same = begins_same }
 
 -- A pass without a chain has left every reading, and nothing has come about.
 module _ (t : Table) (x : Term) where
@@ -104,43 +101,33 @@ module _ (t : Table) (x : Term) where
   none_taken rs n a left w c e z = (subst (AllLeft [] rs 0) e (all_left rs (nothing_applied n) [] 0 0)).1 z
 
 -- The ways out of the first planning.
-module _ (s : List ℕ) (view : View) (belongs : Belongs s view) (x : Term) (state w w₁ : List ℕ) where
-  abbrev t : Table
-  t = table_of s
-
+module _ (t : Table) (x : Term) (state : List ℕ) where
   abbrev meant : Meant
   meant = first t x (readings_of state) (used_of state)
-
-  recovers_is : t.recovers ≡ view.recovers
-  unfolding table_of
-  recovers_is = sym (ap (λ (v : View). v.recovers) belongs.is)
 
   by_pass : (p : MeantPass) → pass_over t x state ≡ p → meant ≡ first_of_pass t p
   by_pass p e = one_pass_lem t x (readings_of state) (used_of state) ∙ ap (first_of_pass t) e
 
-  module _ (q : Pass) (h : PassIs state w (pass_over t x state) w₁ q) where
-    pub first_refused : (k : Refusal) → q ≡ pass.Stopped k → meant ≡ refuses k
-    first_refused k f = let g : Stops w (pass_over t x state) k w₁ = subst (PassIs state w (pass_over t x state) w₁) f h in by_pass (stopped k) g.is
+  pub first_refused : (k : Refusal) → pass_over t x state ≡ stopped k → meant ≡ refuses k
+  first_refused k h = by_pass (stopped k) h
 
-    module _ (so : SoFar) (left : ℕ) (f : q ≡ pass.Passed so left) where
-      passes : Passes state (pass_over t x state) w₁ so left
-      passes = subst (PassIs state w (pass_over t x state) w₁) f h
+  module _ (w₁ : List ℕ) (so : SoFar) (left : ℕ) (passes : Passes state (pass_over t x state) w₁ so left) where
+    pub settle_ready : EndReady w₁ so left
+    settle_ready =
+        let a = passes.stands.paced.both in let b = passes.stands.paced.chains in let c = passes.stands.few in let v = passes.stands.walked in
+        record {
+          area = passes.stands.area;
+          lefts = all_stand_kept (used_of state) w₁ w₁ (λ d q. refl) 41920 0 left (λ j p q. refl) passes.stands.lefts so.counts.cells passes.stands.below;
+          few = c;
+          room = omega arith;
+          walked = omega arith;
+        }
 
-      pub settle_ready : EndReady w₁ so left
-      settle_ready =
-          let a = passes.stands.paced.both in let b = passes.stands.paced.chains in let c = passes.stands.few in let v = passes.stands.walked in
-          record {
-            area = passes.stands.area;
-            lefts = all_stand_kept (used_of state) w₁ w₁ (λ d q. refl) 41920 0 left (λ j p q. refl) passes.stands.lefts so.counts.cells passes.stands.below;
-            few = c;
-            room = omega arith;
-            walked = omega arith;
-          }
+    module _ (recovers : Bool) (recovers_is : recovers ≡ t.recovers) where
+      ended : (w₂ : List ℕ) (e : Ended) → EndsWith recovers w₁ so left w₂ e → Settles meant w₂ e
+      ended w₂ e g = record { fed = g.fed; is = by_pass _ passes.is ∙ g.is t (sym recovers_is); holds = g.holds }
 
-      ended : (w₂ : List ℕ) (e : Ended) → EndsWith view.recovers w₁ so left w₂ e → Settles meant w₂ e
-      ended w₂ e g = record { fed = g.fed; is = by_pass _ passes.is ∙ g.is t recovers_is; holds = g.holds }
-
-      waits : (w₂ : List ℕ) (walked left' : ℕ) → Waits view.recovers w₁ so left w₂ walked left' → MustRecover meant state w₂ walked left'
+      waits : (w₂ : List ℕ) (walked left' : ℕ) → Waits recovers w₁ so left w₂ walked left' → MustRecover meant state w₂ walked left'
       waits w₂ v left' g =
           let st = passes.stands in
           let p = st.paced in
@@ -150,7 +137,7 @@ module _ (s : List ℕ) (view : View) (belongs : Belongs s view) (x : Term) (sta
           (let a : so.counts.cells ≡ used_of state = p.unborn none in let b : so.counts.results ≡ 0 = omega arith in let c : so.counts.errors ≡ 0 = omega arith in λ i. record { cells = a i; results = b i; errors = c i }) in
           let few = st.walked in let is = g.walked_is in
           record {
-            is = by_pass _ passes.is ∙ g.is t recovers_is;
+            is = by_pass _ passes.is ∙ g.is t (sym recovers_is);
             loaded = rw g.same st.loaded;
             area = rw g.same (subst (Area 41824 w₁) counts-are st.area);
             lefts = rw (g.same, g.left_is) st.lefts;
@@ -159,7 +146,6 @@ module _ (s : List ℕ) (view : View) (belongs : Belongs s view) (x : Term) (sta
             few_walked = omega arith;
           }
 
-      pub first_settled : (w₂ : List ℕ) (o : First) → SettledIs view.recovers w₁ so left w₂ o → FirstIs meant state w₂ o
-      first_settled w₂ (at_first.Refused k) g = absurd g
+      pub first_settled : (w₂ : List ℕ) (o : First) → SettledIs recovers w₁ so left w₂ o → FirstIs meant state w₂ (Ok o)
       first_settled w₂ (at_first.Ended e) g = ended w₂ e g
       first_settled w₂ (at_first.Recovers v left') g = waits w₂ v left' g

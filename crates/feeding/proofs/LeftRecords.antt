@@ -19,15 +19,14 @@ use Rattle.state.specs.Readings.{slot_at, height_at, top_at, reading_at, reading
 use Rattle.state.specs.declared.Slot.{Slot}
 use Rattle.state.proofs.Slots.{slot_agree}
 use Rattle.state.proofs.Lists.{readings_last, readings_kept, all_stand_kept}
-use Rattle.actions.specs.Errors.{error_size, error_at, put_error, errors_of}
+use Rattle.actions.specs.Errors.{error_at, put_error, errors_of}
 use Rattle.actions.proofs.ErrorRecords.{length_put_error, agree_put_error, error_agree, error_back, errors_last, errors_kept}
-use Rattle.feeding.specs.Unplanned.{UnplannedReady, UnplannedDone}
+use Rattle.feeding.specs.Unplanned.{place, UnplannedReady, UnplannedDone}
+use Rattle.feeding.specs.declared.unplanned.Order.{Order}
+use Rattle.feeding.specs.declared.unplanned.Order.TheVariants.{FirstToLast, LastToFirst}
 
 -- What a reading's record is: its slot has the mark, its top cell the state.
 module _ (w : List ℕ) (i errors : ℕ) (y : UnplannedReady w i 1 errors) where
-  pub slot_room : left_at + slot_size * i + slot_size ≤ length w
-  slot_room = let a = y.long in let b = y.few in omega arith
-
   module _ (q : Slot) (e : q ≡ slot_at w left_at i) where
     pub cell_room : cell_size * q.top.0 + cell_size ≤ length w
     cell_room =
@@ -47,9 +46,6 @@ module _ (w : List ℕ) (i errors : ℕ) (y : UnplannedReady w i 1 errors) where
 
     pub put_is : (x : Cell) → x ≡ cell_at w q.top.0 → (w' : List ℕ) → w' ≡ put_error w errors (record { rule = 65535; state = x.state; mark = q.mark }) → w' ≡ put_error w errors (unplanned (reading_at w left_at i))
     put_is x f w' g = g ∙ ap (λ (z : ErrorRecord). put_error w errors z) (record_is x f)
-
-  pub error_room : errors_at + error_size * errors + error_size ≤ length w
-  error_room = let a = y.long in let b = y.room in omega arith
 
 -- Where nothing below the error records was written, lists of readings are as they were.
 module _ (w w' : List ℕ) (kept : Agree w' w 0 errors_at) (cells : ℕ) (pool : cells ≤ 2096) where
@@ -108,84 +104,72 @@ records_then rs rs' w w₁ w₂ e e₁ e₂ g h =
     map_append [] ys = refl
     map_append (z ∷ xs) ys = ap (λ (l : List ErrorRecord). unplanned z ∷ l) (map_append xs ys)
 
--- In the list's order.
-module _ (w : List ℕ) (i count errors : ℕ) where
-  pub order_none : count ≡ 0 → UnplannedDone (readings_from w left_at i count) w errors w errors
-  unfolding readings_from
-  order_none z = rw z (record { errors_are = sym (append-nil (errors_of w errors)); count_is = omega arith; kept = λ j p q. refl; same = refl })
-
-  module _ (y : UnplannedReady w i count errors) (z : count ≡ 0 → ⊥) where
-    pub order_first : UnplannedReady w i 1 errors
-    order_first =
-        let a = y.few in let b = y.room in
-        record { long = y.long; cells = y.cells; pool = y.pool; few = omega arith; stand = λ j p q. y.stand j p (omega arith); room = omega arith }
-
-    module _ (w₁ : List ℕ) (e : w₁ ≡ put_error w errors (unplanned (reading_at w left_at i))) where
-      first_done : UnplannedDone (reading_at w 41920 i ∷ []) w errors w₁ (errors + 1)
-      first_done = one_record w i errors order_first w₁ e
-
-      pub order_ready : UnplannedReady w₁ (i + 1) (count - 1) (errors + 1)
-      order_ready =
-          let a = y.few in let b = y.room in
-          record {
-            long = first_done.same ∙ y.long;
-            cells = y.cells;
-            pool = y.pool;
-            few = omega arith;
-            stand = stand_agree w w₁ first_done.kept y.cells y.pool 41920 (i + 1) (count - 1) (omega arith) (λ j p q. y.stand j (omega arith) (omega arith));
-            room = omega arith;
-          }
-
-      pub order_more : (w₂ : List ℕ) (r : ℕ) → UnplannedDone (readings_from w₁ left_at (i + 1) (count - 1)) w₁ (errors + 1) w₂ r → UnplannedDone (readings_from w left_at i count) w errors w₂ r
-      unfolding readings_from
-      order_more w₂ r h = at count z refl
-        where
-          at : (k : ℕ) → (k ≡ 0 → ⊥) → k ≡ count → UnplannedDone (readings_from w 41920 i k) w errors w₂ r
-          at zero z' e' = absurd (z' refl)
-          at (suc k) z' e' =
-              let u : count - 1 ≡ k = omega arith in
-              let a = y.few in
-              let same = list_agree w w₁ first_done.kept y.cells y.pool 41920 (i + 1) (count - 1) (omega arith) (λ j p q. y.stand j (omega arith) (omega arith)) in
-              records_then (reading_at w 41920 i ∷ []) (readings_from w 41920 (i + 1) k) w w₁ w₂ errors (errors + 1) r first_done (rw (same, u) at h)
-
--- The last one first.
+-- A list, last one first, begins with its last reading.
 pub reverse_last : (s : List ℕ) (at k : ℕ) → reverse (readings_from s at 0 (k + 1)) ≡ reading_at s at k ∷ reverse (readings_from s at 0 k)
 reverse_last s at k =
     let u : 0 + k ≡ k = omega arith in
     ap (λ (l : List Reading). reverse l) (readings_last s at 0 k) ∙ reverse-append (readings_from s at 0 k) (reading_at s at (0 + k) ∷ []) ∙ ap (λ (j : ℕ). reading_at s at j ∷ reverse (readings_from s at 0 k)) u
 
-module _ (w : List ℕ) (count errors : ℕ) where
-  pub reversed_none : count ≡ 0 → UnplannedDone (reverse (readings_from w left_at 0 count)) w errors w errors
-  unfolding readings_from
-  reversed_none z = rw z (record { errors_are = sym (append-nil (errors_of w errors)); count_is = omega arith; kept = λ j p q. refl; same = refl })
+-- The readings of the first k turns.
+abbrev pub turns : Order → List ℕ → (first count k : ℕ) → List Reading
+turns FirstToLast w first count k = readings_from w 41920 first k
+turns LastToFirst w first count k = reverse (readings_from w 41920 (first + (count - k)) k)
 
-  module _ (y : UnplannedReady w 0 count errors) (z : count ≡ 0 → ⊥) where
-    pub reversed_first : UnplannedReady w (count - 1) 1 errors
-    reversed_first =
-        let a = y.few in let b = y.room in
-        record { long = y.long; cells = y.cells; pool = y.pool; few = omega arith; stand = λ j p q. y.stand j (omega arith) (omega arith); room = omega arith }
+pub turns_none : (o : Order) (w : List ℕ) (first count : ℕ) → turns o w first count 0 ≡ []
+unfolding readings_from
+turns_none FirstToLast w first count = refl
+turns_none LastToFirst w first count = refl
 
-    module _ (w₁ : List ℕ) (e : w₁ ≡ put_error w errors (unplanned (reading_at w left_at (count - 1)))) where
-      last_done : UnplannedDone (reading_at w 41920 (count - 1) ∷ []) w errors w₁ (errors + 1)
-      last_done = one_record w (count - 1) errors reversed_first w₁ e
+turns_more : (o : Order) (w : List ℕ) (first count k : ℕ) → k < count → turns o w first count (k + 1) ≡ turns o w first count k ++ (reading_at w 41920 (place o first count k) ∷ [])
+unfolding readings_from
+turns_more FirstToLast w first count k h = readings_last w 41920 first k
+turns_more LastToFirst w first count k h =
+    let n : k + 1 ≡ suc k = omega arith in
+    let u : first + (count - suc k) ≡ first + (count - 1 - k) = omega arith in
+    let v : first + (count - suc k) + 1 ≡ first + (count - k) = omega arith in
+    ap (λ (j : ℕ). reverse (readings_from w 41920 (first + (count - j)) j)) n
+    ∙ reverse-append (reading_at w 41920 (first + (count - suc k)) ∷ []) (readings_from w 41920 (first + (count - suc k) + 1) k)
+    ∙ (λ i. reverse (readings_from w 41920 (v i) k) ++ (reading_at w 41920 (u i) ∷ []))
 
-      pub reversed_ready : UnplannedReady w₁ 0 (count - 1) (errors + 1)
-      reversed_ready =
-          let a = y.few in let b = y.room in
-          record {
-            long = last_done.same ∙ y.long;
-            cells = y.cells;
-            pool = y.pool;
-            few = omega arith;
-            stand = stand_agree w w₁ last_done.kept y.cells y.pool 41920 0 (count - 1) (omega arith) (λ j p q. y.stand j (omega arith) (omega arith));
-            room = omega arith;
-          }
+-- A turn's reading is one of them.
+place_in : (o : Order) (first count k : ℕ) → k < count → first ≤ place o first count k × place o first count k < first + count
+place_in FirstToLast first count k h = (omega arith, omega arith)
+place_in LastToFirst first count k h = (omega arith, omega arith)
 
-      pub reversed_more : (w₂ : List ℕ) (r : ℕ) → UnplannedDone (reverse (readings_from w₁ left_at 0 (count - 1))) w₁ (errors + 1) w₂ r → UnplannedDone (reverse (readings_from w left_at 0 count)) w errors w₂ r
-      reversed_more w₂ r h =
-          let a = y.few in
-          let u : count - 1 + 1 ≡ count = omega arith in
-          let same = list_agree w w₁ last_done.kept y.cells y.pool 41920 0 (count - 1) (omega arith) (λ j p q. y.stand j (omega arith) (omega arith)) in
-          let split = reverse_last w 41920 (count - 1) in
-          let both = records_then (reading_at w 41920 (count - 1) ∷ []) (reverse (readings_from w 41920 0 (count - 1))) w w₁ w₂ errors (errors + 1) r last_done (rw same at h) in
-          subst (λ (k : ℕ). UnplannedDone (reverse (readings_from w 41920 0 k)) w errors w₂ r) u (subst (λ (l : List Reading). UnplannedDone l w errors w₂ r) (sym split) both)
+module _ (o : Order) (w : List ℕ) (first count errors : ℕ) where
+  pub no_turn : UnplannedDone (turns o w first count 0) w errors w (errors + 0)
+  no_turn =
+      let n : errors + 0 ≡ errors = omega arith in
+      rw (turns_none o w first count, n) (record { errors_are = sym (append-nil (errors_of w errors)); count_is = omega arith; kept = λ j p q. refl; same = refl })
+
+  module _ (y : UnplannedReady w first count errors) (k : ℕ) (h : k < count) (w₁ : List ℕ) (d : UnplannedDone (turns o w first count k) w errors w₁ (errors + k)) (i : ℕ) (e : i ≡ place o first count k) where
+    within : first ≤ i × i < first + count
+    within = rw e (place_in o first count k h)
+
+    one_stands : AllStand y.cells w 41920 i 1
+    one_stands j p q = let l = within in y.stand j (omega arith) (omega arith)
+
+    pub turn_ready : UnplannedReady w₁ i 1 (errors + k)
+    turn_ready =
+        let a = y.few in let b = y.room in let l = within in
+        record {
+          long = d.same ∙ y.long;
+          cells = y.cells;
+          pool = y.pool;
+          few = omega arith;
+          stand = stand_agree w w₁ d.kept y.cells y.pool 41920 i 1 (omega arith) one_stands;
+          room = omega arith;
+        }
+
+    one_same : reading_at w₁ 41920 i ∷ [] ≡ reading_at w 41920 i ∷ []
+    unfolding readings_from
+    one_same = let a = y.few in let l = within in list_agree w w₁ d.kept y.cells y.pool 41920 i 1 (omega arith) one_stands
+
+    pub turn_done : (w₂ : List ℕ) → w₂ ≡ put_error w₁ (errors + k) (unplanned (reading_at w₁ left_at i)) → UnplannedDone (turns o w first count (k + 1)) w errors w₂ (errors + (k + 1))
+    turn_done w₂ f =
+        let one = one_record w₁ i (errors + k) turn_ready w₂ f in
+        let both = records_then (turns o w first count k) (reading_at w₁ 41920 i ∷ []) w w₁ w₂ errors (errors + k) (errors + k + 1) d one in
+        let all : turns o w first count k ++ (reading_at w₁ 41920 i ∷ []) ≡ turns o w first count (k + 1) =
+        ap (λ (l : List Reading). turns o w first count k ++ l) (one_same ∙ ap (λ (j : ℕ). reading_at w 41920 j ∷ []) e) ∙ sym (turns_more o w first count k h) in
+        let n : errors + k + 1 ≡ errors + (k + 1) = omega arith in
+        subst (λ (r : ℕ). UnplannedDone (turns o w first count (k + 1)) w errors w₂ r) n (subst (λ (l : List Reading). UnplannedDone l w errors w₂ (errors + k + 1)) all both)

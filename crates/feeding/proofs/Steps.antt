@@ -5,12 +5,11 @@ use mathlib.Core.Path.{◌≡◌, ap, ◌∙◌}
 use mathlib.Core.Logic.{◌⊎◌, inl, inr, ⊎_elim}
 use mathlib.Core.List.{List}
 use Rattle.meaning.specs.Readings.{Reading}
-use Rattle.meaning.specs.declared.View.{View}
 use Rattle.cells.specs.Pool.{cell_at}
 use Rattle.cells.proofs.Records.{cell_agree}
 use Rattle.cells.proofs.Births.{entries_kept, linked_kept}
 use Rattle.state.specs.Layout.{readings_at, results_at}
-use Rattle.state.specs.Readings.{slot_at, put_slot, top_at, height_at, reading_at, used_of, StandsAt, ListIn}
+use Rattle.state.specs.Readings.{slot_at, put_slot, top_at, height_at, reading_at, used_of, StandsAt}
 use Rattle.state.specs.declared.Slot.{Slot}
 use Rattle.state.proofs.Slots.{length_put_slot, agree_put_slot, slot_agree}
 use Rattle.state.proofs.Lists.{readings_kept, all_stand_kept}
@@ -55,14 +54,9 @@ module _ (list : ℕ) (w : List ℕ) (n : Counts) (a : Area list w n) (at j : �
       λ i. record { results = results i; errors = errors i; next = n.cells }
 
 -- The last of the first i readings.
-module _ (s : List ℕ) (view : View) (state w : List ℕ) (i : ℕ) (so : SoFar) (left : ℕ) (y : PassReady s view state w i so left) (z : i ≡ 0 → ⊥) where
+module _ (state w : List ℕ) (i : ℕ) (so : SoFar) (left : ℕ) (y : PassReady state w i so left) (z : i ≡ 0 → ⊥) where
   here : StandsAt (used_of state) state readings_at (i - 1)
   here = y.readings (i - 1) (omega arith) (omega arith)
-
-  pub top_ready : ListIn state readings_at (i - 1) 1
-  top_ready =
-      let a = y.stands.loaded.long in let b = y.stands.loaded.used in let c = y.room in
-      record { cells = used_of state; room = omega arith; slots = omega arith; few = omega arith; stands = λ j p q. y.readings j (omega arith) (omega arith) }
 
   module _ (r : Top) (e : r ≡ top_of state readings_at (i - 1)) where
     pub same_reading : reading_in w r ≡ reading_at state readings_at (i - 1)
@@ -78,11 +72,10 @@ module _ (s : List ℕ) (view : View) (state w : List ℕ) (i : ℕ) (so : SoFar
           stack = linked_kept (used_of state) (cell_at state) (cell_at w) y.stands.loaded.cells so.counts.cells (height_at state 18432 (i - 1)) (top_at state 18432 (i - 1)) y.stands.below here.stack;
         })
 
-    pub take_ready : TakeReady s view w results_at r so
+    pub take_ready : TakeReady w results_at r so
     take_ready =
         let b = y.budget in
         record {
-          belongs = y.belongs;
           area = y.stands.area;
           stands = stands_here;
           roomy = record { found = y.stands.found; cells = used_of state; errors = 0; few_errors = omega arith; paced = y.stands.paced };

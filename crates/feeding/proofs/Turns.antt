@@ -1,48 +1,58 @@
--- The turns of a pass, by what taking the term has answered. Assumes nothing.
-use Prim.Native.Nat.{ℕ, ◌+◌, ◌-◌, ◌*◌, ◌≤◌}
-use mathlib.Core.Path.{◌≡◌, subst}
+-- The turns of a pass: what holds before each of them, and what follows by what taking the term has answered. Assumes nothing.
+use Prim.Native.Nat.{ℕ, ◌+◌, ◌-◌}
+use mathlib.Core.Path.{◌≡◌, sym, ◌∙◌, subst}
 use mathlib.Core.List.{List}
-use lib.ListN.{length}
-use Rattle.meaning.specs.TableFile.{table_of}
+use Rattle.std.specs.Prelude.{Ok, Err}
+use Rattle.meaning.specs.TableFile.{Table}
 use Rattle.meaning.specs.declared.Refusal.{Refusal}
 use Rattle.meaning.specs.declared.Term.{Term}
-use Rattle.meaning.specs.declared.View.{View}
-use Rattle.state.specs.Layout.{slot_size, readings_at, results_at, left_at}
+use Rattle.state.specs.Layout.{readings_at, results_at, left_at}
 use Rattle.state.specs.Readings.{put_slot}
 use Rattle.actions.specs.declared.Top.{Top}
-use Rattle.taking.specs.Taking.{top_of, Takes, Leaves, TakingIs}
+use Rattle.taking.specs.Taking.{top_of, TakeReady, Takes, Leaves, TakingIs}
 use Rattle.taking.specs.declared.SoFar.{SoFar}
-use Rattle.taking.specs.declared.Taking.{Taking}
-use Rattle.taking.specs.declared.Taking.TheVariants.{Refused, Took, Not}
-use Rattle.feeding.specs.Passing.{PassReady, Stops, PassIs, pass_from}
-use Rattle.feeding.specs.declared.Pass.{Pass}
-use Rattle.feeding.proofs.Ways.{pass_on, pass_refused, took_length, took_ready, took_same, left_room, left_length, left_ready, left_same}
+use Rattle.taking.specs.declared.Turn.{Turn}
+use Rattle.taking.specs.declared.Turn.TheVariants.{Took, Left}
+use Rattle.feeding.specs.OnePass.{stopped}
+use Rattle.feeding.specs.Passing.{PassReady, Passes, pass_from}
+use Rattle.feeding.specs.Ending.{pass_over}
+use Rattle.feeding.proofs.Steps as steps
+use Rattle.feeding.proofs.Ways as ways
 
-module _ (x : Term) (s : List ℕ) (view : View) (state w : List ℕ) (i : ℕ) (so : SoFar) (left : ℕ) (y : PassReady s view state w i so left) (z : i ≡ 0 → ⊥)
-    (r : Top) (e : r ≡ top_of state readings_at (i - 1)) (w₁ : List ℕ) (q : Taking) (h : TakingIs (table_of s) x results_at w r so w₁ q) where
-  pub turn_refused : (k : Refusal) → q ≡ Refused k → Stops w (pass_from (table_of s) x state w i so left) k w₁
-  turn_refused k f = pass_refused x s view state w i so left y z r e k w₁ (subst (TakingIs (table_of s) x 41824 w r so w₁) f h)
+-- The first i readings are still to come, and what they come to is what the pass comes to.
+pub record Goes (t : Table) (x : Term) (state w : List ℕ) (i : ℕ) (so : SoFar) (left : ℕ) : Type 0 where
+  pub ready : PassReady state w i so left
+  pub same : pass_from t x state w i so left ≡ pass_over t x state
 
-  module _ (so₁ : SoFar) (f : q ≡ Took so₁) where
-    taken : Takes (table_of s) x results_at w r so w₁ so₁
-    taken = subst (TakingIs (table_of s) x 41824 w r so w₁) f h
+module _ (t : Table) (x : Term) (state w : List ℕ) (i : ℕ) (so : SoFar) (left : ℕ) (g : Goes t x state w i so left) where
+  pub pass_ends : i ≡ 0 → Passes state (pass_over t x state) w so left
+  pass_ends z = let p = ways.pass_end t x state w i so left g.ready z in record { is = sym g.same ∙ p.is; stands = p.stands }
 
-    pub turn_took : PassReady s view state w₁ (i - 1) so₁ left
-    turn_took = took_ready x s view state w i so left y z r e w₁ so₁ taken
+  module _ (z : i ≡ 0 → ⊥) where
+    module _ (r : Top) (e : r ≡ top_of state readings_at (i - 1)) where
+      pub turn_ready : TakeReady w results_at r so
+      turn_ready = steps.take_ready state w i so left g.ready z r e
 
-    pub turned_took : (w' : List ℕ) (p : Pass) → PassIs state w₁ (pass_from (table_of s) x state w₁ (i - 1) so₁ left) w' p → PassIs state w (pass_from (table_of s) x state w i so left) w' p
-    turned_took w' p g = pass_on state w w₁ _ _ w' p (took_length x s view state w i so left y z r e w₁ so₁ taken) (took_same x s view state w i so left y z r e w₁ so₁ taken) g
+      module _ (w₁ : List ℕ) where
+        pub turn_refused : (k : Refusal) → TakingIs t x results_at w r so w₁ (Err k) → pass_over t x state ≡ stopped k
+        turn_refused k h = sym g.same ∙ ways.pass_refused t x state w i so left g.ready z r e k w₁ h
 
-  module _ (so₁ : SoFar) (f : q ≡ Not so₁) where
-    leaves : Leaves (table_of s) x results_at w r so w₁ so₁
-    leaves = subst (TakingIs (table_of s) x 41824 w r so w₁) f h
+        module _ (turn : Turn) (h : TakingIs t x results_at w r so w₁ (Ok turn)) where
+          pub turn_took : (so₁ : SoFar) → turn ≡ Took so₁ → Goes t x state w₁ (i - 1) so₁ left
+          turn_took so₁ f =
+              let took : Takes t x results_at w r so w₁ so₁ = subst (λ (q : Turn). TakingIs t x results_at w r so w₁ (Ok q)) f h in
+              record {
+                ready = ways.took_ready t x state w i so left g.ready z r e w₁ so₁ took;
+                same = ways.took_same t x state w i so left g.ready z r e w₁ so₁ took ∙ g.same;
+              }
 
-    pub turn_room : left_at + slot_size * left + slot_size ≤ length w₁
-    turn_room = left_room x s view state w i so left y z r e w₁ so₁ leaves
+          module _ (so₁ : SoFar) (f : turn ≡ Left so₁) where
+            leaves : Leaves t x results_at w r so w₁ so₁
+            leaves = subst (λ (q : Turn). TakingIs t x results_at w r so w₁ (Ok q)) f h
 
-    module _ (w₂ : List ℕ) (p : w₂ ≡ put_slot w₁ left_at left (record { top = r.cell; mark = r.mark })) where
-      pub turn_left : PassReady s view state w₂ (i - 1) so₁ (left + 1)
-      turn_left = left_ready x s view state w i so left y z r e w₁ so₁ leaves w₂ p
-
-      pub turned_left : (w' : List ℕ) (o : Pass) → PassIs state w₂ (pass_from (table_of s) x state w₂ (i - 1) so₁ (left + 1)) w' o → PassIs state w (pass_from (table_of s) x state w i so left) w' o
-      turned_left w' o g = pass_on state w w₂ _ _ w' o (left_length x s view state w i so left y z r e w₁ so₁ leaves w₂ p) (left_same x s view state w i so left y z r e w₁ so₁ leaves w₂ p) g
+            pub turn_left : (w₂ : List ℕ) → w₂ ≡ put_slot w₁ left_at left (record { top = r.cell; mark = r.mark }) → Goes t x state w₂ (i - 1) so₁ (left + 1)
+            turn_left w₂ p =
+                record {
+                  ready = ways.left_ready t x state w i so left g.ready z r e w₁ so₁ leaves w₂ p;
+                  same = ways.left_same t x state w i so left g.ready z r e w₁ so₁ leaves w₂ p ∙ g.same;
+                }

@@ -1,4 +1,4 @@
--- The ways out of a pass, and what its recursion asks. Assumes nothing.
+-- The ways out of a pass, and what its next turn asks. Assumes nothing.
 use Prim.Native.Nat.{ℕ, ◌+◌, ◌-◌, ◌*◌, ◌<◌, ◌≤◌}
 use native.Mathlib.Omega.{arith}
 use mathlib.Core.Path.{◌≡◌, sym, ap, ◌∙◌, subst}
@@ -8,22 +8,21 @@ use mathlib.Core.List.{List, [], ◌∷◌, ◌++◌, reverse}
 use lib.ListN.{length}
 use Rattle.std.specs.Prelude.{if◌then◌else◌}
 use Rattle.meaning.specs.Readings.{Reading, states}
-use Rattle.meaning.specs.TableFile.{Table, table_of}
+use Rattle.meaning.specs.TableFile.{Table}
 use Rattle.meaning.specs.Walk.{Walk, Walked, plan, ends}
 use Rattle.meaning.specs.Applying.{Applied, apply, joined}
 use Rattle.meaning.specs.declared.Refusal.{Refusal}
 use Rattle.meaning.specs.declared.Term.{Term}
-use Rattle.meaning.specs.declared.View.{View}
 use Rattle.cells.specs.Pool.{cell_at}
 use Rattle.cells.specs.Stacks.{entries_of, Linked}
 use Rattle.cells.proofs.Births.{entries_kept, linked_kept}
 use Rattle.cells.proofs.Records.{cell_agree}
-use Rattle.cells.proofs.Stacks.{linked_top, linked_top_height}
+use Rattle.cells.proofs.Stacks.{linked_top_height}
 use Rattle.state.specs.Layout.{slot_size, readings_at, results_at, left_at}
 use Rattle.state.specs.Readings.{slot_at, put_slot, top_at, height_at, reading_of, readings_from, results_of, used_of, AllStand}
 use Rattle.state.specs.declared.Slot.{Slot}
 use Rattle.state.proofs.Births.{finds_on}
-use Rattle.state.proofs.Slots.{length_put_slot, agree_put_slot}
+use Rattle.state.proofs.Slots.{agree_put_slot}
 use Rattle.state.proofs.Lists.{readings_kept, all_stand_kept, readings_added, stands_added}
 use Rattle.actions.specs.Acting.{reading_in}
 use Rattle.actions.specs.declared.Top.{Top}
@@ -31,28 +30,17 @@ use Rattle.taking.specs.Taking.{top_of, planned, Refuses, Takes, Leaves}
 use Rattle.taking.specs.Stages.{made_of, Further}
 use Rattle.taking.specs.declared.SoFar.{SoFar}
 use Rattle.taking.proofs.Stages.{further_takes, made_takes, further_leaves, made_leaves}
-use Rattle.feeding.specs.OnePass.{Pass as Meant, on_walk, one_pass}
-use Rattle.feeding.specs.Passing.{PassStands, PassReady, Stops, Passes, PassIs, pass_from}
-use Rattle.feeding.specs.declared.Pass.{Pass}
-use Rattle.feeding.specs.declared.Pass.TheVariants as pass
+use Rattle.feeding.specs.OnePass.{Pass as Meant, stopped, on_walk, one_pass}
+use Rattle.feeding.specs.Passing.{PassStands, PassReady, Passes, pass_from}
 use Rattle.feeding.proofs.LeftRecords.{reverse_last}
 use Rattle.feeding.proofs.Steps.{put_area, put_made, same_reading, stands_here}
 
 -- No reading is left to be met.
-pub pass_end : (t : Table) (x : Term) (s : List ℕ) (view : View) (state w : List ℕ) (i : ℕ) (so : SoFar) (left : ℕ) → PassReady s view state w i so left → i ≡ 0 → Passes state (pass_from t x state w i so left) w so left
+pub pass_end : (t : Table) (x : Term) (state w : List ℕ) (i : ℕ) (so : SoFar) (left : ℕ) → PassReady state w i so left → i ≡ 0 → Passes state (pass_from t x state w i so left) w so left
 unfolding one_pass readings_from
-pass_end t x s view state w i so left y z = record { is = rw z; stands = y.stands }
+pass_end t x state w i so left y z = record { is = rw z; stands = y.stands }
 
--- What the recursion comes to is what the pass comes to.
-pub pass_on : (state w w₁ : List ℕ) (x x₁ : Meant) (w' : List ℕ) (r : Pass) → length w₁ ≡ length w → x₁ ≡ x → PassIs state w₁ x₁ w' r → PassIs state w x w' r
-pass_on state w w₁ x x₁ w' (pass.Stopped k) l e y = record { is = sym e ∙ y.is; same = y.same ∙ l }
-pass_on state w w₁ x x₁ w' (pass.Passed so left) l e y = record { is = sym e ∙ y.is; stands = y.stands }
-
-module _ (x : Term) (s : List ℕ) (view : View) (state w : List ℕ) (i : ℕ) (so : SoFar) (left : ℕ) (y : PassReady s view state w i so left) (z : i ≡ 0 → ⊥)
-    (r : Top) (e : r ≡ top_of state readings_at (i - 1)) where
-  abbrev t : Table
-  t = table_of s
-
+module _ (t : Table) (x : Term) (state w : List ℕ) (i : ℕ) (so : SoFar) (left : ℕ) (y : PassReady state w i so left) (z : i ≡ 0 → ⊥) (r : Top) (e : r ≡ top_of state readings_at (i - 1)) where
   abbrev before : List Reading
   before = reverse (readings_from state 18432 0 (i - 1))
 
@@ -74,15 +62,15 @@ module _ (x : Term) (s : List ℕ) (view : View) (state w : List ℕ) (i : ℕ) 
   step =
       let u : i - 1 + 1 ≡ i = omega arith in
       subst (λ (j : ℕ). pass_from t x state w j so left ≡ after (reading_in w r)) u
-      (ap (λ (l : List Reading). one_pass t x l a lefts so.walked so.chains) (reverse_last state 18432 (i - 1)) ∙ ap after (sym (same_reading s view state w i so left y z r e)))
+      (ap (λ (l : List Reading). one_pass t x l a lefts so.walked so.chains) (reverse_last state 18432 (i - 1)) ∙ ap after (sym (same_reading state w i so left y z r e)))
     where
       after : Reading → Meant
       after q = on_walk (plan t 16 x.class (states q.stack) so.chains)
           (λ tree k c. one_pass t x before (joined a (apply t x tree q so.counts.cells)) lefts (so.walked + k) c)
           (λ k c. one_pass t x before a (lefts ++ q ∷ []) (so.walked + k) c)
 
-  pub pass_refused : (k : Refusal) (w₁ : List ℕ) → Refuses t x w r so k w₁ → Stops w (pass_from t x state w i so left) k w₁
-  pass_refused k w₁ h = record { is = step ∙ ap (λ (v : Walked). on_walk v on_took on_left) h.is; same = h.same }
+  pub pass_refused : (k : Refusal) (w₁ : List ℕ) → Refuses t x w r so k w₁ → pass_from t x state w i so left ≡ stopped k
+  pass_refused k w₁ h = step ∙ ap (λ (v : Walked). on_walk v on_took on_left) h.is
 
   -- What goes on as it was while the stage goes on.
   module _ (w₁ : List ℕ) (so₁ : SoFar) (g : Further results_at w so w₁ so₁) where
@@ -113,14 +101,10 @@ module _ (x : Term) (s : List ℕ) (view : View) (state w : List ℕ) (i : ℕ) 
     took : Further results_at w so w₁ so₁
     took = further_takes t x 41824 w r so w₁ so₁ h
 
-    pub took_length : length w₁ ≡ length w
-    took_length = took.area.long ∙ sym y.stands.area.long
-
-    pub took_ready : PassReady s view state w₁ (i - 1) so₁ left
+    pub took_ready : PassReady state w₁ (i - 1) so₁ left
     took_ready =
         let b = y.budget in let m = y.room in let few = h.walks.few in let v = h.walks.walked_is in
         record {
-          belongs = y.belongs;
           stands = stands_on w₁ so₁ took (omega arith);
           readings = λ j p q. y.readings j p (omega arith);
           room = omega arith;
@@ -150,17 +134,13 @@ module _ (x : Term) (s : List ℕ) (view : View) (state w : List ℕ) (i : ℕ) 
     abbrev w₂ : List ℕ
     w₂ = put_slot w₁ 41920 left slot
 
-    low_top : r.cell.0 < used_of state
-    low_top =
-        rw e (linked_top (used_of state) (cell_at state) (height_at state 18432 (i - 1)) (top_at state 18432 (i - 1)) (y.readings (i - 1) (omega arith) (omega arith)).low (y.readings (i - 1) (omega arith) (omega arith)).stack)
-
     -- the reading stands as before, in the state's cells
     linked_here : Linked (used_of state) (cell_at w₁) r.height r.cell.0
     linked_here =
         rw e (linked_kept (used_of state) (cell_at state) (cell_at w₁) (λ d q. cells_on w₁ so₁ left_on d q ∙ y.stands.loaded.cells d q) (used_of state) (height_at state 18432 (i - 1)) (top_at state 18432 (i - 1)) (omega arith) (y.readings (i - 1) (omega arith) (omega arith)).stack)
 
     height_here : (cell_at w₁ r.cell.0).height ≡ r.height
-    height_here = let low = (stands_here s view state w i so left y z r e).low in linked_top_height (used_of state) (cell_at w₁) r.height r.cell.0 (omega arith) linked_here
+    height_here = let low = (stands_here state w i so left y z r e).low in linked_top_height (used_of state) (cell_at w₁) r.height r.cell.0 (omega arith) linked_here
 
     reading_here : reading_of (cell_at w₁) slot ≡ reading_in w r
     reading_here =
@@ -176,10 +156,10 @@ module _ (x : Term) (s : List ℕ) (view : View) (state w : List ℕ) (i : ℕ) 
     lefts_before = all_stand_kept (used_of state) w w₁ (cells_on w₁ so₁ left_on) 41920 0 left (slots_on w₁ so₁ left_on) y.stands.lefts (used_of state) (omega arith)
 
     low_here : 1 ≤ (cell_at w₁ r.cell.0).height
-    low_here = let q = height_here in let a = (stands_here s view state w i so left y z r e).low in omega arith
+    low_here = let q = height_here in let a = (stands_here state w i so left y z r e).low in omega arith
 
     high_here : (cell_at w₁ r.cell.0).height ≤ 64
-    high_here = let q = height_here in let a = (stands_here s view state w i so left y z r e).high in omega arith
+    high_here = let q = height_here in let a = (stands_here state w i so left y z r e).high in omega arith
 
     linked_slot : Linked (used_of state) (cell_at w₁) (cell_at w₁ r.cell.0).height r.cell.0
     linked_slot = rw height_here linked_here
@@ -213,14 +193,10 @@ module _ (x : Term) (s : List ℕ) (view : View) (state w : List ℕ) (i : ℕ) 
         }
 
     module _ (w' : List ℕ) (p : w' ≡ put_slot w₁ left_at left (record { top = r.cell; mark = r.mark })) where
-      pub left_length : length w' ≡ length w
-      left_length = rw p (length_put_slot w₁ 41920 left slot ∙ left_on.area.long ∙ sym y.stands.area.long)
-
-      pub left_ready : PassReady s view state w' (i - 1) so₁ (left + 1)
+      pub left_ready : PassReady state w' (i - 1) so₁ (left + 1)
       left_ready =
           let b = y.budget in let m = y.room in let few = h.walks.few in let v = h.walks.walked_is in
           record {
-            belongs = y.belongs;
             stands = rw p (left_stands (omega arith));
             readings = λ j q l. y.readings j q (omega arith);
             room = omega arith;

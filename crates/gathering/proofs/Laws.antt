@@ -1,6 +1,6 @@
 -- The way out of gathering, and what the loop has read. Assumes nothing.
 --     gathered     what was read from the first record on is what is promised
-use mathlib.Core.Path.{◌≡◌, refl, sym, ap, ◌∙◌, subst}
+use mathlib.Core.Path.{◌≡◌, sym, ap, ap₂, ◌∙◌, subst}
 use mathlib.Core.List.{List, [], ◌∷◌, ◌++◌}
 use Prim.Native.Nat.{ℕ, ◌+◌, ◌*◌, ◌<◌, ◌≤◌}
 use native.Mathlib.Omega.{arith}
@@ -19,30 +19,29 @@ pub record GatheredTo (w : List ℕ) (count : ℕ) (list : List ErrorRecord) (i 
   pub few : i ≤ count
   pub is : list ≡ padded max_errors no_record (errors_of w i)
 
-pub gather_first : (w : List ℕ) (count : ℕ) → GatheredTo w count (replicate 32 no_record) 0
+pub gather_first : (w : List ℕ) (count : ℕ) (list : List ErrorRecord) → list ≡ replicate max_errors no_record → GatheredTo w count list 0
 unfolding errors_from
-gather_first w count = record { few = omega arith; is = refl }
+gather_first w count list e = record { few = omega arith; is = e }
 
-module _ (w : List ℕ) (count : ℕ) (p : (length w ≡ work_len) × (count ≤ max_errors)) (list : List ErrorRecord) (i : ℕ) (g : GatheredTo w count list i) where
+module _ (w : List ℕ) (count : ℕ) (long : length w ≡ work_len) (fits : count ≤ max_errors) (list : List ErrorRecord) (i : ℕ) (g : GatheredTo w count list i) where
   pub gather_room : i < count → errors_at + error_size * i + error_size ≤ length w
-  gather_room h = let a = p.0 in let b = p.1 in omega arith
+  gather_room h = omega arith
 
-  pub gather_more : (x : ErrorRecord) → i < count → x ≡ error_at w i → GatheredTo w count (set list i x) (i + 1)
-  gather_more x h e =
+  pub gather_more : (place : ℕ) (x : ErrorRecord) → i < count → place ≡ i → x ≡ error_at w i → GatheredTo w count (set list place x) (i + 1)
+  gather_more place x h here e =
       let u : 0 + i ≡ i = omega arith in
       let l = length_errors w 0 i in
-      let b = p.1 in
       let more : errors_of w i ++ (x ∷ []) ≡ errors_of w (i + 1) = ap (λ (y : ErrorRecord). errors_of w i ++ (y ∷ [])) e ∙ sym (rw u at (errors_last w 0 i)) in
       record {
         few = omega arith;
         is =
-            ap (λ (m : List ErrorRecord). set m i x) g.is
+            ap₂ (λ (m : List ErrorRecord) (j : ℕ). set m j x) g.is here
             ∙ subst (λ (n : ℕ). set (padded 32 no_record (errors_of w i)) n x ≡ padded 32 no_record (errors_of w i ++ (x ∷ []))) l (padded_one (errors_of w i) 32 no_record x (omega arith))
             ∙ ap (padded 32 no_record) more;
       }
 
-  pub gathered : count ≤ i → Gathered w count (record { list = list; count = count })
-  gathered h =
+  pub gathered : (n : ℕ) → count ≤ i → n ≡ count → Gathered w count (record { list = list; count = n })
+  gathered n h e =
       let f = g.few in
       let all : i ≡ count = omega arith in
-      record { count_is = sym (length_errors w 0 count); few = p.1; list_is = rw all at g.is }
+      record { count_is = e ∙ sym (length_errors w 0 count); few = omega arith; list_is = rw all at g.is }

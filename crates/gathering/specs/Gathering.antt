@@ -2,8 +2,7 @@
 use Rattle.std.specs.Prelude.{List, ℕ, replicate}
 use Rattle.meaning.specs.Limits.{max_errors}
 use Rattle.actions.specs.Errors.{errors_of}
-use Rattle.lists.specs.Filling.{no_record, ByValue}
-use Rattle.lists.specs.declared.errors.Errors.{Errors}
+use Rattle.lists.specs.Filling.{Errors, no_record, ByValue}
 
 abbrev pub no_errors : Errors
 no_errors = record { list = replicate max_errors no_record; count = 0 }

@@ -17,21 +17,17 @@ pub fn fail(rt: &HostRuntime, what: &[u8], error: &io::Error) {
 
 // A file's name is text here: another one names no file.
 fn file_of(rt: &HostRuntime, path: &[u8]) -> io::Result<File> {
-    match std::str::from_utf8(path) {
-        Ok(name) => File::open(rt, name),
-        Err(_) => Err(io::Error::from(ErrorKind::InvalidFilename)),
-    }
+    let Ok(name) = std::str::from_utf8(path) else {
+        return Err(io::Error::from(ErrorKind::InvalidFilename));
+    };
+    File::open(rt, name)
 }
 
 // The file, open for reading; or why it cannot be opened is said on standard error.
 pub fn open(rt: &HostRuntime, path: &[u8]) -> Option<File> {
-    match file_of(rt, path) {
-        Ok(file) => Some(file),
-        Err(error) => {
-            fail(rt, path, &error);
-            None
-        }
-    }
+    file_of(rt, path)
+        .inspect_err(|error| fail(rt, path, error))
+        .ok()
 }
 
 // Reads until there is no room left, the file ends or a read fails, and returns how many bytes it put at the start of the room.
@@ -49,20 +45,13 @@ pub fn read_full(file: &mut File, bytes: &mut [u8]) -> usize
     done
 }
 
-fn has_argument(rt: &HostRuntime, i: usize) -> bool {
-    match rt.arg(i, &mut [0u8; 1]) {
-        Ok(_) => true,
-        Err(FillError::TooLong) => true,
-        Err(FillError::NotPresent) => false,
-    }
+fn has_argument(rt: &impl Env, i: usize) -> bool {
+    !matches!(rt.arg(i, &mut [0u8; 1]), Err(FillError::NotPresent))
 }
 
 // How many arguments there are, the program's name among them.
-pub fn arg_count(rt: &HostRuntime) -> usize {
-    for i in 0..usize::MAX {
-        if !has_argument(rt, i) {
-            return i;
-        }
-    }
-    usize::MAX
+pub fn arg_count(rt: &impl Env) -> usize {
+    (0..usize::MAX)
+        .position(|i| !has_argument(rt, i))
+        .unwrap_or(usize::MAX)
 }

@@ -1,52 +1,40 @@
 // Compares the table files of the known runs with the bytes that the runs are proved of, and says where they differ.
 #![tactic(auto)]
 
+use std::io;
+
 // How many bytes stand before the first that differs or is missing in one of the two.
 fn same_at_start(file: &[u8], bytes: &[u8]) -> usize {
-    let mut i: usize = 0;
-    while i < file.len() {
-        if i >= bytes.len() {
-            return i;
-        }
-        if file[i] != bytes[i] {
-            return i;
-        }
-        i += 1;
-    }
-    i
+    file.iter()
+        .zip(bytes)
+        .position(|(a, b)| a != b)
+        .unwrap_or(file.len().min(bytes.len()))
 }
 
-fn say(rt: &HostRuntime, words: &[u8]) {
-    let _ = rt.write_all(words);
-}
-
-fn say_number(rt: &HostRuntime, n: usize) {
-    let _ = rt.print(n);
-}
-
-fn report(rt: &HostRuntime, name: &[u8], file: &[u8], bytes: &[u8]) {
-    say(rt, name);
-    if check::same(file, bytes) {
-        say(rt, b": ");
-        say_number(rt, file.len());
-        say(rt, b" bytes, the same\n");
-        return;
-    }
-    say(rt, b": differs at byte ");
-    say_number(rt, same_at_start(file, bytes));
-    say(rt, b"\n");
-}
-
-fn compare(rt: &HostRuntime, name: &[u8], bytes: &[u8]) {
-    if let Some(mut file) = host::open(rt, name) {
-        let mut room = [0u8; 4096];
-        let n = host::read_full(&mut file, &mut room);
-        report(rt, name, &room[..n], bytes);
+fn report(rt: &impl Print, name: &str, file: &[u8], bytes: &[u8]) -> io::Result<()> {
+    if file == bytes {
+        println!(rt; "{name}: {} bytes, the same", file.len())
+    } else {
+        println!(rt; "{name}: differs at byte {}", same_at_start(file, bytes))
     }
 }
 
+fn compare(rt: &HostRuntime, name: &str, bytes: &[u8]) -> io::Result<()> {
+    let Some(mut file) = host::open(rt, name.as_bytes()) else {
+        return Ok(());
+    };
+    let mut room = [0u8; 4096];
+    let n = host::read_full(&mut file, &mut room);
+    report(rt, name, &room[..n], bytes)
+}
+
+fn compare_all(rt: &HostRuntime) -> io::Result<()> {
+    compare(rt, "t1.tab", &known_tables::t1())?;
+    compare(rt, "t2.tab", &known_tables::t2())?;
+    compare(rt, "t4.tab", &known_tables::t4())
+}
+
+// What cannot be written is not said anywhere else, and the exit status is 0.
 fn main(rt: HostRuntime) {
-    compare(&rt, b"t1.tab", &known_tables::t1());
-    compare(&rt, b"t2.tab", &known_tables::t2());
-    compare(&rt, b"t4.tab", &known_tables::t4());
+    let _ = compare_all(&rt);
 }

@@ -2,10 +2,105 @@
 #![tactic(auto)]
 
 use by_value::reading;
-use console::terms::Traced;
 use console::{State, Work, saying, terms};
 use machine::Machine;
-use meaning::{StackAnswer, StartAnswer, Term};
+use meaning::{HEIGHTS, StackNumbers, Term};
+use std::io;
+
+// A case: what is said before the answer, its table file, how many words are fed first, and the class of the term after them.
+#[derive(Clone, Copy)]
+struct Case {
+    title: &'static str,
+    table: &'static str,
+    words: u16,
+    class: u16,
+}
+
+// What most cases have in common: class 4 after one word.
+const USUAL: Case = Case {
+    title: "",
+    table: "",
+    words: 1,
+    class: 4,
+};
+
+const CASES: [Case; 13] = [
+    Case {
+        title: "a shift to height 64",
+        table: "height",
+        words: 62,
+        class: 3,
+        ..USUAL
+    },
+    Case {
+        title: "a shift to height 65",
+        table: "height",
+        words: 63,
+        class: 3,
+        ..USUAL
+    },
+    Case {
+        title: "an empty rule to 63, a shift to height 64",
+        table: "empty",
+        words: 61,
+        ..USUAL
+    },
+    Case {
+        title: "an empty rule to 64, a shift to height 65",
+        table: "empty",
+        words: 62,
+        ..USUAL
+    },
+    Case {
+        title: "an empty rule to height 65",
+        table: "empty",
+        words: 63,
+        ..USUAL
+    },
+    Case {
+        title: "a chain of 32 reductions",
+        table: "chain-32",
+        ..USUAL
+    },
+    Case {
+        title: "a chain of 33 reductions",
+        table: "chain-33",
+        ..USUAL
+    },
+    Case {
+        title: "a walk of 1,024 reductions",
+        table: "walk-1024",
+        ..USUAL
+    },
+    Case {
+        title: "a walk of 1,025 reductions",
+        table: "walk-1025",
+        ..USUAL
+    },
+    Case {
+        title: "16 chains",
+        table: "chains-16",
+        ..USUAL
+    },
+    Case {
+        title: "17 chains",
+        table: "chains-17",
+        ..USUAL
+    },
+    Case {
+        title: "an empty rule that leads on, from height 1",
+        table: "empty",
+        words: 0,
+        ..USUAL
+    },
+    Case {
+        title: "an empty rule that leads to itself, from height 1",
+        table: "empty-loop",
+        words: 0,
+        class: 3,
+        ..USUAL
+    },
+];
 
 fn term(class: u16) -> Term {
     Term {
@@ -18,99 +113,45 @@ fn term(class: u16) -> Term {
 
 // The first reading's height; 0 if there is no reading.
 fn height(table: &[u8], state: &State) -> u16 {
-    let read = reading::stack_of(table, state, 0, meaning::HEIGHTS);
-    let answer = read.answer;
-    match answer {
-        StackAnswer::Read { height, mark: _ } => height,
-        StackAnswer::Refused(_) => 0,
+    let read = reading::stack_of(table, state, 0, HEIGHTS);
+    StackNumbers::from(read.answer).height
+}
+
+// So many words, of which nothing is said, and one term more.
+fn run_table(rt: &impl Print, table: &[u8], case: Case) -> io::Result<()> {
+    let mut state: State = [0; Machine::STATE_LENGTH];
+    let mut work: Work = [0; Machine::WORK_LENGTH];
+    if Machine::start(table, &mut state, &mut work).is_err() {
+        return println!(rt; ": wrong table");
     }
-}
-
-fn say_traced(rt: &HostRuntime, traced: Traced, height: u16) {
-    saying::number(rt, b": answer ", traced.answer as u64);
-    saying::number(rt, b", reductions ", traced.walked as u64);
-    saying::number(rt, b"; left: readings ", traced.readings as u64);
-    saying::number_line(rt, b", height ", height as u64);
-}
-
-// So many terms of class 3, of which nothing is said.
-fn feed_words(table: &[u8], state: &mut State, work: &mut Work, count: u16) {
-    let mut i: u16 = 0;
-    while i < count {
-        terms::feed_term(table, &mut *state, &mut *work, term(3));
-        i += 1;
+    for _ in 0..case.words {
+        terms::feed_term(table, &mut state, &mut work, term(3));
     }
+    let traced = terms::feed_term(table, &mut state, &mut work, term(case.class));
+    let numbers = traced.numbers;
+    print!(rt;
+        ": answer {}, reductions {}",
+        numbers.answer, numbers.walked
+    )?;
+    println!(rt;
+        "; left: readings {}, height {}",
+        traced.readings,
+        height(table, &state)
+    )
 }
 
-// After these, one term more.
-fn run_table(rt: &HostRuntime, table: &[u8], count: u16, class: u16) {
-    let mut state = [0u8; Machine::STATE_LENGTH];
-    let mut work = [0u8; Machine::WORK_LENGTH];
-    match Machine::start(table, &mut state, &mut work) {
-        StartAnswer::Refused(_) => {
-            saying::line(rt, b": wrong table");
-        }
-        StartAnswer::Done => {
-            feed_words(table, &mut state, &mut work, count);
-            let traced = terms::feed_term(table, &mut state, &mut work, term(class));
-            say_traced(rt, traced, height(table, &state));
+fn run(rt: &HostRuntime) -> io::Result<()> {
+    for case in CASES {
+        if let Some(mut file) = host::open(rt, case.table.as_bytes()) {
+            let mut bytes = [0; 4096];
+            let n = host::read_full(&mut file, &mut bytes);
+            print!(rt; "{}", case.title)?;
+            run_table(rt, &bytes[..n], case)?;
         }
     }
-}
-
-fn run(rt: &HostRuntime, title: &[u8], path: &[u8], count: u16, class: u16) {
-    if let Some(mut file) = host::open(rt, path) {
-        let mut bytes = [0u8; 4096];
-        let n = host::read_full(&mut file, &mut bytes);
-        saying::say(rt, title);
-        run_table(rt, &bytes[..n], count, class);
-    }
-}
-
-fn heights(rt: &HostRuntime) {
-    run(rt, b"a shift to height 64", b"height", 62, 3);
-    run(rt, b"a shift to height 65", b"height", 63, 3);
-    run(
-        rt,
-        b"an empty rule to 63, a shift to height 64",
-        b"empty",
-        61,
-        4,
-    );
-    run(
-        rt,
-        b"an empty rule to 64, a shift to height 65",
-        b"empty",
-        62,
-        4,
-    );
-    run(rt, b"an empty rule to height 65", b"empty", 63, 4);
-}
-
-fn walks(rt: &HostRuntime) {
-    run(rt, b"a chain of 32 reductions", b"chain-32", 1, 4);
-    run(rt, b"a chain of 33 reductions", b"chain-33", 1, 4);
-    run(rt, b"a walk of 1,024 reductions", b"walk-1024", 1, 4);
-    run(rt, b"a walk of 1,025 reductions", b"walk-1025", 1, 4);
-    run(rt, b"16 chains", b"chains-16", 1, 4);
-    run(rt, b"17 chains", b"chains-17", 1, 4);
+    Ok(())
 }
 
 fn main(rt: HostRuntime) {
-    heights(&rt);
-    walks(&rt);
-    run(
-        &rt,
-        b"an empty rule that leads on, from height 1",
-        b"empty",
-        0,
-        4,
-    );
-    run(
-        &rt,
-        b"an empty rule that leads to itself, from height 1",
-        b"empty-loop",
-        0,
-        3,
-    );
+    saying::end(&rt, run(&rt));
 }

@@ -1,10 +1,18 @@
 -- What a list by value holds, and what filling a lent list from it means, over the record and the list's size.
-use Rattle.std.specs.Prelude.{ℕ, ◌≤◌, ◌≡◌, List, ◌++◌, eqb, leb, length, take, drop, replicate}
-use Rattle.std.specs.Prelude.{if◌then◌else◌}
+use Rattle.std.specs.Prelude.{ℕ, ◌≤◌, ◌≡◌, List, ◌++◌, eqb, leb, length, take, drop, replicate, if◌then◌else◌}
 use Rattle.meaning.specs.Calls.{written}
 use Rattle.meaning.specs.TableFile.{state_no}
 use Rattle.meaning.specs.declared.ErrorRecord.{ErrorRecord}
 use Rattle.meaning.specs.declared.Entry.{Entry}
+use Rattle.meaning.specs.Limits.{max_errors, max_height}
+use Rattle.lists.specs.declared.Records.{Records}
+
+-- the error records of a feed, the entries of a stack that is read out
+abbrev pub Errors : Type 0
+Errors = Records ErrorRecord max_errors
+
+abbrev pub Entries : Type 0
+Entries = Records Entry max_height
 
 -- what a place of a list by value holds where it holds nothing, and what is read past the end of a list
 abbrev pub no_record : ErrorRecord

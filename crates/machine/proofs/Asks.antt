@@ -1,112 +1,100 @@
 -- The ways out of the questions. Assumes nothing.
-use mathlib.Core.Path.{◌≡◌, sym, ap, ◌∙◌}
+use mathlib.Core.Path.{◌≡◌, refl, sym, ap, ◌∙◌}
 use mathlib.Core.Bool.{Bool, true, false}
 use mathlib.Core.List.{List}
-use Prim.Native.Nat.{ℕ, ◌<◌, ◌≤◌}
+use Prim.Native.Nat.{ℕ}
 use native.Mathlib.Omega.{arith}
 use lib.ListN.{length, drop, length-drop}
 use lib.Seq.{length-take-le}
 use borrow.Rule.Slice.PartMut.{mid_of, put_mid, same_len_mid}
-use borrow.Author.Tests.{lt-ltb, le-ltb, le-leb, lt-leb}
+use borrow.Author.Tests.{eq-eqb, ne_eqb}
+use Rattle.std.specs.Prelude.{Result, Ok, Err}
+use Rattle.std.specs.Array.{IsWholeChunk}
+use Rattle.meaning.specs.Answers.{QuestionAnswer}
 use Rattle.meaning.specs.Basics.{is_nil}
 use Rattle.meaning.specs.Calls.{wrong_class, takes_right, takes_call, can_end_call, can_recover_call}
 use Rattle.meaning.specs.Questions.{takes, can_end, can_recover}
-use Rattle.meaning.specs.TableFile.{table_of}
-use Rattle.meaning.specs.declared.QuestionAnswer.{QuestionAnswer}
-use Rattle.meaning.specs.declared.QuestionAnswer.TheVariants.{No, Refused}
+use Rattle.meaning.specs.TableFile.{Table}
 use Rattle.meaning.specs.declared.Refusal.{Refusal}
 use Rattle.meaning.specs.declared.Refusal.TheVariants.{WrongLength, WrongArgument}
-use Rattle.meaning.specs.declared.View.{View}
+use Rattle.meaning.proofs.Booleans.{both_false}
 use Rattle.numbers.specs.Zeros.{zeros}
 use Rattle.questions.specs.Asking.{AsksState}
-use Rattle.state.specs.Layout.{marks_at}
+use Rattle.state.specs.Layout.{marks_at, state_len, work_len}
 use Rattle.state.specs.Readings.{readings_from, readings_of, count_of}
-use Rattle.promises.specs.Buffers.{lengths_right, state_for}
-use Rattle.checks.specs.Checks.{found_of}
-use Rattle.promises.specs.Buffers.{work_after}
+use Rattle.promises.specs.Buffers.{lengths_right, work_after}
 use Rattle.promises.specs.Calls.{QuestionPromise}
-use Rattle.machine.specs.Lines.{AsksLine}
-use Rattle.checks.specs.declared.Found.{Found}
-use Rattle.checks.specs.declared.Found.TheVariants as found
-use Rattle.checks.proofs.Checks.{some_readings, state_long, work_long, RightFor, right_for, checked_refused, checked_right}
+use Rattle.checks.specs.Checks.{found_of}
+use Rattle.checks.proofs.Checks.{some_readings, file_found, valid_found, checked_refused, checked_right}
+use Rattle.machine.specs.Lines.{MarksLine, asked_right, asked_on}
+use Rattle.machine.specs.declared.asking.Question.{Question}
+use Rattle.machine.specs.declared.asking.Question.TheVariants.{Takes, CanEnd, CanRecover}
 
 -- Takes, of a table and a state that were found right.
-module _ (table : List ℕ) (v : View) (state marks : List ℕ) (class n : ℕ) (y : AsksState table v state marks) (e : n ≡ count_of state) where
-  classes_are : v.counts.classes ≡ (table_of table).counts.classes
-  unfolding table_of
-  classes_are = ap (λ (w : View). w.counts.classes) y.belongs.is
-
-  pub takes_consumed : n ≡ 0 → No ≡ takes_right (table_of table) class (readings_of state)
+module _ (t : Table) (state : List ℕ) (class n : ℕ) (e : n ≡ count_of state) where
+  pub takes_consumed : n ≡ 0 → Ok false ≡ takes_right t class (readings_of state)
   unfolding takes_right readings_from
   takes_consumed z = rw (← e, z)
 
-  module _ (some : n ≡ 0 → ⊥) where
+  module _ (some : n ≡ 0 → ⊥) (b : Bool) (f : b ≡ wrong_class t.counts.classes class) where
     not_nil : is_nil (readings_of state) ≡ false
     not_nil = some_readings state (count_of state) (λ z. some (e ∙ z))
 
-    pub takes_low : class < 3 → Refused WrongArgument ≡ takes_right (table_of table) class (readings_of state)
-    unfolding takes_right wrong_class
-    takes_low l = rw (not_nil, lt-ltb class 3 l)
+    pub takes_wrong : b ≡ true → Err WrongArgument ≡ takes_right t class (readings_of state)
+    unfolding takes_right
+    takes_wrong g = rw (not_nil, ← f, g)
 
-    module _ (h : 3 ≤ class) where
-      pub takes_high : v.counts.classes ≤ class → Refused WrongArgument ≡ takes_right (table_of table) class (readings_of state)
-      unfolding takes_right wrong_class
-      takes_high l = rw (not_nil, le-ltb class 3 h, le-leb (table_of table).counts.classes class (rw classes_are at l))
-
-      pub takes_asked : class < v.counts.classes → takes (table_of table) class (readings_of state) ≡ takes_right (table_of table) class (readings_of state)
-      unfolding takes_right wrong_class
-      takes_asked l = rw (not_nil, le-ltb class 3 h, lt-leb (table_of table).counts.classes class (rw classes_are at l))
+    pub takes_asked : b ≡ false → (r : QuestionAnswer) → r ≡ takes t class (readings_of state) → r ≡ takes_right t class (readings_of state)
+    unfolding takes_right
+    takes_asked g r h = rw (not_nil, ← f, g) h
 
 -- Each question, by what the checks find.
-module _ (table state marks : List ℕ) (y : AsksLine state marks) (q : Found) (says : q ≡ found_of table state) where
-  module _ (k : Refusal) (e : q ≡ found.Refused k) where
-    pub takes_refused : (class : ℕ) → Refused k ≡ takes_call true table (state_for table state) class
-    unfolding takes_call
-    takes_refused class = checked_refused table state q says Refused (λ t rs. takes_right t class rs) k e
+module _ (table state : List ℕ) (q : Result Table Refusal) (says : q ≡ found_of table state) where
+  pub asked_refused : (k : Refusal) (x : Question) → q ≡ Err k → Err k ≡ asked_on table state x true
+  unfolding takes_call can_end_call can_recover_call
+  asked_refused k (Takes class) e = checked_refused table state q says Err (λ t rs. takes_right t class rs) k e
+  asked_refused k CanEnd e = checked_refused table state q says Err can_end k e
+  asked_refused k CanRecover e = checked_refused table state q says Err can_recover k e
 
-    pub end_refused : Refused k ≡ can_end_call true table (state_for table state)
-    unfolding can_end_call
-    end_refused = checked_refused table state q says Refused can_end k e
+  module _ (t : Table) (e : q ≡ Ok t) where
+    pub asks_state : (marks : List ℕ) → MarksLine marks → AsksState t.counts.states state marks
+    asks_state marks y = record { valid = valid_found table state q says t e; long = y.long }
 
-    pub recover_refused : Refused k ≡ can_recover_call true table (state_for table state)
-    unfolding can_recover_call
-    recover_refused = checked_refused table state q says Refused can_recover k e
+    pub asked_found : (x : Question) (r : QuestionAnswer) → r ≡ asked_right t x (readings_of state) → r ≡ asked_on table state x true
+    unfolding takes_call can_end_call can_recover_call
+    asked_found (Takes class) r f = f ∙ checked_right table state t (file_found table state q says t e) (valid_found table state q says t e) Err (λ u rs. takes_right u class rs)
+    asked_found CanEnd r f = f ∙ checked_right table state t (file_found table state q says t e) (valid_found table state q says t e) Err can_end
+    asked_found CanRecover r f = f ∙ checked_right table state t (file_found table state q says t e) (valid_found table state q says t e) Err can_recover
 
-  module _ (v : View) (e : q ≡ found.Right v) where
-    right : RightFor table state v
-    right = right_for table state q says v e
+-- Check 1, and the work area cleared at every answer but 1.
+asked_short : (table state : List ℕ) (x : Question) → asked_on table state x false ≡ Err WrongLength
+unfolding takes_call can_end_call can_recover_call
+asked_short table state (Takes class) = refl
+asked_short table state CanEnd = refl
+asked_short table state CanRecover = refl
 
-    pub asks_state : AsksState table v state marks
-    asks_state = record { belongs = right.belongs; state_long = y.state_long; valid = right.valid; long = y.long }
-
-    pub takes_right_lem : (class : ℕ) (r : QuestionAnswer) → r ≡ takes_right (table_of table) class (readings_of state) → r ≡ takes_call true table (state_for table state) class
-    unfolding takes_call
-    takes_right_lem class r f = f ∙ checked_right table state v right Refused (λ t rs. takes_right t class rs)
-
-    pub end_right : (r : QuestionAnswer) → r ≡ can_end (table_of table) (readings_of state) → r ≡ can_end_call true table (state_for table state)
-    unfolding can_end_call
-    end_right r f = f ∙ checked_right table state v right Refused can_end
-
-    pub recover_right : (r : QuestionAnswer) → r ≡ can_recover (table_of table) (readings_of state) → r ≡ can_recover_call true table (state_for table state)
-    unfolding can_recover_call
-    recover_right r f = f ∙ checked_right table state v right Refused can_recover
-
--- The public questions.
-module _ (call : Bool → QuestionAnswer) (state work : List ℕ) (b : Bool) (e : b ≡ lengths_right state work) where
-  pub asked_length : b ≡ false → call false ≡ Refused WrongLength → QuestionPromise call state work (Refused WrongLength) work
+module _ (table state work : List ℕ) (x : Question) where
+  asked_length : lengths_right state work ≡ false → QuestionPromise (asked_on table state x) state work (Err WrongLength) work
   unfolding work_after
-  asked_length f g = let no = sym e ∙ f in record { answers = rw no (sym g); cleared = rw no }
+  asked_length e = record { answers = rw e (sym (asked_short table state x)); cleared = rw e }
 
-  pub asked_done : (r : QuestionAnswer) (marks work' : List ℕ) → b ≡ true → r ≡ call true → length marks ≡ length (mid_of marks_at 4096 work) →
-      work' ≡ zeros (length (put_mid marks_at 4096 work marks)) → QuestionPromise call state work r work'
-  unfolding work_after
-  asked_done r marks work' f g l w =
-      let yes = sym e ∙ f in
-      record { answers = rw yes g; cleared = rw yes (rw (same_len_mid marks_at 4096 work marks l) at w) }
+  pub asked_state_length : (length state ≡ state_len → ⊥) → QuestionPromise (asked_on table state x) state work (Err WrongLength) work
+  unfolding lengths_right
+  asked_state_length l = asked_length (rw (ne_eqb (length state) 18532 l))
+
+  pub asked_work_length : (length work ≡ work_len → ⊥) → QuestionPromise (asked_on table state x) state work (Err WrongLength) work
+  unfolding lengths_right
+  asked_work_length l = asked_length (rw (ne_eqb (length work) 46464 l, both_false))
+
+  pub asked_done : (state₁ work₁ marks work' : List ℕ) (r : QuestionAnswer) → IsWholeChunk state state₁ state_len → IsWholeChunk work work₁ work_len → r ≡ asked_on table state₁ x true →
+      length marks ≡ length (mid_of marks_at 4096 work₁) → work' ≡ zeros (length (put_mid marks_at 4096 work₁ marks)) → QuestionPromise (asked_on table state x) state work r work'
+  unfolding work_after lengths_right
+  asked_done state₁ work₁ marks work' r s w e l z =
+      let yes : lengths_right state work ≡ true = rw (eq-eqb (length state) 18532 s.long, eq-eqb (length work) 46464 w.long) in
+      record { answers = rw yes (rw s.same at e); cleared = rw yes (z ∙ ap zeros (same_len_mid marks_at 4096 work₁ marks l ∙ ap length w.same)) }
 
 -- what the questions ask of the marks' part of the work area
-pub asks_line : (state work : List ℕ) (b : Bool) → b ≡ lengths_right state work → b ≡ true → AsksLine state (mid_of marks_at 4096 work)
-asks_line state work b e f =
-    let l = work_long state work b e f in
+pub marks_line : (work : List ℕ) → length work ≡ work_len → MarksLine (mid_of marks_at 4096 work)
+marks_line work l =
     let d = length-drop marks_at work in
-    record { state_long = state_long state work b e f; long = length-take-le 4096 (drop marks_at work) (omega arith) }
+    record { long = length-take-le 4096 (drop marks_at work) (omega arith) }

@@ -1,3 +1,4 @@
 -- Laws of start and of the questions.
+pub mod Lengths
 pub mod Starts
 pub mod Asks

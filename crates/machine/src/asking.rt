@@ -1,64 +1,57 @@
 // The questions on buffers of the right lengths, over the marks' part of the work area. Private: only `Machine` calls them, and it has looked at the lengths.
 ghost use Rattle.std.specs.Prelude.{◌≡◌, true};
-ghost use Rattle.meaning.specs.Calls.{takes_right, takes_call, can_end_call, can_recover_call};
-ghost use Rattle.meaning.specs.TableFile.{table_of};
+ghost use Rattle.meaning.specs.Calls.{takes_right};
 ghost use Rattle.state.specs.Readings.{readings_of};
 ghost use Rattle.questions.specs.Asking.{AsksState};
-ghost use Rattle.promises.specs.Buffers.{state_for};
-ghost use Rattle.machine.specs.Lines.{AsksLine};
+ghost use Rattle.machine.specs.Lines.{asked_right, asked_on, MarksLine};
 
-use checks::{Found, find};
-use meaning::{FIRST_TERM, QuestionAnswer, Refusal, View};
+use meaning::{QuestionAnswer, Refusal};
+use state::State;
+use table::Table;
+
+// What is asked: whether a term of this class would be taken, whether the line can end, whether recovery would find a height to go on from.
+#[derive(Clone, Copy)]
+pub(super) enum Question {
+    Takes(u16),
+    CanEnd,
+    CanRecover,
+}
 
 // Consumed is no, before the class is looked at.
-fn takes_right(
-    table: &[u8],
-    view: View,
-    state: &[u8],
-    class: u16,
-    marks: &mut [u8],
-) -> QuestionAnswer
-    requires { AsksState table.now view state.now marks.old }
-    ensures { result ≡ takes_right (table_of table.now) class (readings_of state.now) }
+fn takes_right(table: &Table, state: &State, class: u16, marks: &mut [u8]) -> QuestionAnswer
+    requires { AsksState table.now.counts.states state.now marks.old }
+    ensures { result ≡ takes_right table.now class (readings_of state.now) }
 {
     if state::reading_count(state) == 0 {
-        return QuestionAnswer::No;
+        return Ok(false);
     }
-    if class < FIRST_TERM {
-        return QuestionAnswer::Refused(Refusal::WrongArgument);
+    if checks::wrong_class(table, class) {
+        return Err(Refusal::WrongArgument);
     }
-    if class >= view.counts.classes {
-        return QuestionAnswer::Refused(Refusal::WrongArgument);
-    }
-    questions::takes(table, view, state, class, marks)
+    questions::takes(table, state, class, marks)
 }
 
-pub(super) fn takes(table: &[u8], state: &[u8], marks: &mut [u8], class: u16) -> QuestionAnswer
-    requires { AsksLine state.now marks.old }
-    ensures { result ≡ takes_call true table.now (state_for table.now state.now) class }
+// On a table and a state that were found right.
+fn ask_right(table: &Table, state: &State, marks: &mut [u8], question: Question) -> QuestionAnswer
+    requires { AsksState table.now.counts.states state.now marks.old }
+    ensures { result ≡ asked_right table.now question (readings_of state.now) }
 {
-    match find(table, state) {
-        Found::Refused(refusal) => QuestionAnswer::Refused(refusal),
-        Found::Right(view) => takes_right(table, view, state, class, marks),
-    }
-}
-
-pub(super) fn can_end(table: &[u8], state: &[u8], marks: &mut [u8]) -> QuestionAnswer
-    requires { AsksLine state.now marks.old }
-    ensures { result ≡ can_end_call true table.now (state_for table.now state.now) }
-{
-    match find(table, state) {
-        Found::Refused(refusal) => QuestionAnswer::Refused(refusal),
-        Found::Right(view) => questions::can_end(table, view, state, marks),
+    match question {
+        Question::Takes(class) => takes_right(table, state, class, marks),
+        Question::CanEnd => questions::can_end(table, state, marks),
+        Question::CanRecover => questions::can_recover(table, state, marks),
     }
 }
 
-pub(super) fn can_recover(table: &[u8], state: &[u8], marks: &mut [u8]) -> QuestionAnswer
-    requires { AsksLine state.now marks.old }
-    ensures { result ≡ can_recover_call true table.now (state_for table.now state.now) }
+pub(super) fn ask(
+    table: &[u8],
+    state: &State,
+    marks: &mut [u8],
+    question: Question,
+) -> QuestionAnswer
+    requires { MarksLine marks.old }
+    ensures { result ≡ asked_on table.now state.now question true }
 {
-    match find(table, state) {
-        Found::Refused(refusal) => QuestionAnswer::Refused(refusal),
-        Found::Right(view) => questions::can_recover(table, view, state, marks),
-    }
+    let table = checks::find(table, state)?;
+    ask_right(&table, state, marks, question)
 }

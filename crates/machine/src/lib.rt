@@ -3,20 +3,23 @@
 
 ghost use Rattle.std.specs.Prelude.{◌≡◌};
 ghost use Rattle.machine.specs.Limits.{limits};
+ghost use Rattle.machine.specs.Lines.{asked_on};
 ghost use Rattle.promises.specs.Calls.{StartPromise, takes_on, can_end_on, can_recover_on, QuestionPromise, StackPromise, FeedPromise};
 
+use asking::Question;
 use meaning::{
     Entry, ErrorRecord, FeedAnswer, QuestionAnswer, Refusal, StackAnswer, StartAnswer, Term,
 };
+use state::{MARKS_AT, RESULTS_AT, STATE_LENGTH, WORK_LENGTH, Work};
 
 mod asking;
 mod starting;
 
-#[derive(Clone, Copy)]
+#[derive(Clone, Copy, Debug)]
 pub struct Machine {}
 
 // The eight limits, and how long the lent buffers and the lent list of errors are.
-#[derive(Clone, Copy)]
+#[derive(Clone, Copy, Debug, PartialEq, Eq)]
 pub struct Limits {
     pub states: u16,
     pub classes: u16,
@@ -50,9 +53,9 @@ impl Machine {
     pub const WALKED: usize = meaning::MAX_WALKED;
 
     // The lengths of the lent buffers, and the places of the lent list of errors.
-    pub const STATE_LENGTH: usize = state::STATE_LENGTH;
+    pub const STATE_LENGTH: usize = STATE_LENGTH;
 
-    pub const WORK_LENGTH: usize = state::WORK_LENGTH;
+    pub const WORK_LENGTH: usize = WORK_LENGTH;
 
     pub const ERRORS: usize = meaning::MAX_ERRORS;
 
@@ -79,61 +82,42 @@ impl Machine {
     pub fn start(table: &[u8], state: &mut [u8], work: &mut [u8]) -> StartAnswer
         ensures { StartPromise table.now state.old work.old result state.new work.new }
     {
-        if checks::lengths_right(state, work) {
-            let answer = starting::start_line(table, state);
-            numbers::clear(work);
-            return answer;
-        }
-        StartAnswer::Refused(Refusal::WrongLength)
+        let state = state.as_mut_array().ok_or(Refusal::WrongLength)?;
+        let work: &mut Work = work.as_mut_array().ok_or(Refusal::WrongLength)?;
+        let answer = starting::start_line(table, state);
+        numbers::clear(work);
+        answer
+    }
+
+    fn ask(table: &[u8], state: &[u8], work: &mut [u8], question: Question) -> QuestionAnswer
+        ensures { QuestionPromise (asked_on table.now state.now question) state.now work.old result work.new }
+    {
+        let state = state.as_array().ok_or(Refusal::WrongLength)?;
+        let work: &mut Work = work.as_mut_array().ok_or(Refusal::WrongLength)?;
+        let answer = asking::ask(table, state, &mut work[MARKS_AT..RESULTS_AT], question);
+        numbers::clear(work);
+        answer
     }
 
     // Would a term of this class be taken?
     pub fn takes(table: &[u8], state: &[u8], work: &mut [u8], class: u16) -> QuestionAnswer
         ensures { QuestionPromise (takes_on table.now state.now class) state.now work.old result work.new }
     {
-        if checks::lengths_right(state, work) {
-            let answer = asking::takes(
-                table,
-                state,
-                &mut work[state::MARKS_AT..state::RESULTS_AT],
-                class,
-            );
-            numbers::clear(work);
-            return answer;
-        }
-        QuestionAnswer::Refused(Refusal::WrongLength)
+        Machine::ask(table, state, work, Question::Takes(class))
     }
 
     // Can the line end here?
     pub fn can_end(table: &[u8], state: &[u8], work: &mut [u8]) -> QuestionAnswer
         ensures { QuestionPromise (can_end_on table.now state.now) state.now work.old result work.new }
     {
-        if checks::lengths_right(state, work) {
-            let answer = asking::can_end(
-                table,
-                state,
-                &mut work[state::MARKS_AT..state::RESULTS_AT],
-            );
-            numbers::clear(work);
-            return answer;
-        }
-        QuestionAnswer::Refused(Refusal::WrongLength)
+        Machine::ask(table, state, work, Question::CanEnd)
     }
 
     // Would recovery find a height to go on from?
     pub fn can_recover(table: &[u8], state: &[u8], work: &mut [u8]) -> QuestionAnswer
         ensures { QuestionPromise (can_recover_on table.now state.now) state.now work.old result work.new }
     {
-        if checks::lengths_right(state, work) {
-            let answer = asking::can_recover(
-                table,
-                state,
-                &mut work[state::MARKS_AT..state::RESULTS_AT],
-            );
-            numbers::clear(work);
-            return answer;
-        }
-        QuestionAnswer::Refused(Refusal::WrongLength)
+        Machine::ask(table, state, work, Question::CanRecover)
     }
 
     // Reads the stack of a reading out, top first, into the lent list.
@@ -141,8 +125,7 @@ impl Machine {
         ensures { StackPromise table.now state.now number entries.old result entries.new }
     {
         let read = by_value::reading::stack_of(table, state, number, entries.len());
-        let list = read.entries;
-        lists::entries::fill(entries, list);
+        lists::fill(entries, &read.entries);
         read.answer
     }
 
@@ -157,8 +140,7 @@ impl Machine {
         ensures { FeedPromise table.now state.old work.old term errors.old result state.new work.new errors.new }
     {
         let run = by_value::running::feed_of(table, state, work, term, errors.len());
-        let list = run.errors;
-        lists::errors::fill(errors, list);
+        lists::fill(errors, &run.errors);
         run.answer
     }
 }

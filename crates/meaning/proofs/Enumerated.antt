@@ -6,20 +6,21 @@ use mathlib.Core.List.Memᴰ
 use mathlib.Core.List.{List, [], ◌∷◌, ◌++◌, map, tail}
 use lib.ListN.{drop}
 use native.Mathlib.Omega.{arith}
-use Rattle.meaning.specs.Basics.{Maybe, nothing, just, listed, nth}
+use Rattle.std.specs.Prelude.{Option, None, Some}
+use Rattle.meaning.specs.Basics.{listed, nth}
 use Rattle.meaning.specs.TableFile.{Table, rule_of}
 use Rattle.meaning.specs.Chains.{record_at, landing, Chain, IsChain, chains_by, chains_from, chains_at}
 use Rattle.meaning.specs.Walk.{Walk, walked, plan}
 use Rattle.meaning.specs.Demand3.{Among, Different, Enumerates}
 use Rattle.meaning.proofs.Trees.{GrownBy, Grown, walk_grown}
 
-abbrev IsJust : {A : Type 0} → Maybe A → Type 0
-IsJust nothing = ⊥
-IsJust (just a) = Unit {0}
+abbrev IsJust : {A : Type 0} → Option A → Type 0
+IsJust None = ⊥
+IsJust (Some a) = Unit {0}
 
-abbrev from_just : ℕ → Maybe ℕ → ℕ
-from_just d nothing = d
-from_just d (just a) = a
+abbrev from_just : ℕ → Option ℕ → ℕ
+from_just d None = d
+from_just d (Some a) = a
 
 abbrev head_or : ℕ → Chain → ℕ
 head_or d [] = d
@@ -49,8 +50,8 @@ module _ (t : Table) (cls : ℕ) where
     to : ℕ
     on : Chain
     is : ch ≡ (j + i) ∷ on
-    rule : nth ks i ≡ just k
-    land : landing t (rule_of t k) st ≡ just to
+    rule : nth ks i ≡ Some k
+    land : landing t (rule_of t k) st ≡ Some to
     among : Among on (more (to ∷ drop (rule_of t k).len st))
 
   by_among : (more : List ℕ → List Chain) (st : List ℕ) (j : ℕ) (ks : List ℕ) (ch : Chain) → Among ch (chains_by t more st j ks) → Through more st j ks ch
@@ -61,9 +62,9 @@ module _ (t : Table) (cls : ℕ) where
       deep : ℕ → List Chain
       deep to = more (to ∷ drop (rule_of t k).len st)
 
-      landed : (v : Maybe ℕ) → landing t (rule_of t k) st ≡ v → (c : Chain) → ch ≡ j ∷ c → Among c (listed v deep) → Through more st j (k ∷ ks) ch
-      landed nothing e c is a = absurd (Memᴰ.not-nil a)
-      landed (just to) e c is a = record { i = 0; k = k; to = to; on = c; is = is ∙ ap {B = Chain} (λ n. n ∷ c) (omega arith); rule = refl; land = e; among = a }
+      landed : (v : Option ℕ) → landing t (rule_of t k) st ≡ v → (c : Chain) → ch ≡ j ∷ c → Among c (listed v deep) → Through more st j (k ∷ ks) ch
+      landed None e c is a = absurd (Memᴰ.not-nil a)
+      landed (Some to) e c is a = record { i = 0; k = k; to = to; on = c; is = is ∙ ap {B = Chain} (λ n. n ∷ c) (omega arith); rule = refl; land = e; among = a }
 
       at : Among ch (map (λ (c : Chain). j ∷ c) (listed (landing t (rule_of t k) st) deep)) ⊎ Among ch (chains_by t more st (suc j) ks)
           → (Among ch (chains_by t more st (suc j) ks) → Through more st (suc j) ks ch) → Through more st j (k ∷ ks) ch
@@ -72,11 +73,11 @@ module _ (t : Table) (cls : ℕ) where
           let q = h a in
           record { i = suc q.i; k = q.k; to = q.to; on = q.on; is = q.is ∙ ap {B = Chain} (λ n. n ∷ q.on) (omega arith); rule = q.rule; land = q.land; among = q.among }
 
-  shift_among : (st : List ℕ) (ch : Chain) (v : Maybe ℕ) → (record_at t cls st).shift ≡ v → Among ch (listed v (λ to. [] ∷ [])) → (ch ≡ []) × ((to : ℕ) × ((record_at t cls st).shift ≡ just to))
-  shift_among st ch nothing e m = absurd (Memᴰ.not-nil m)
-  shift_among st ch (just to) e m = at (Memᴰ.cases_cons m)
+  shift_among : (st : List ℕ) (ch : Chain) (v : Option ℕ) → (record_at t cls st).shift ≡ v → Among ch (listed v (λ to. [] ∷ [])) → (ch ≡ []) × ((to : ℕ) × ((record_at t cls st).shift ≡ Some to))
+  shift_among st ch None e m = absurd (Memᴰ.not-nil m)
+  shift_among st ch (Some to) e m = at (Memᴰ.cases_cons m)
     where
-      at : (ch ≡ []) ⊎ Among ch [] → (ch ≡ []) × ((to : ℕ) × ((record_at t cls st).shift ≡ just to))
+      at : (ch ≡ []) ⊎ Among ch [] → (ch ≡ []) × ((to : ℕ) × ((record_at t cls st).shift ≡ Some to))
       at (inl f) = (f, (to, e))
       at (inr n) = absurd (Memᴰ.not-nil n)
 
@@ -102,10 +103,10 @@ module _ (t : Table) (cls : ℕ) where
   sound (suc left) st ch m = step_sound (λ s. chains_from left t cls s) (λ s c n. sound left s c n) st ch m
 
   -- complete
-  among_listed : (f : ℕ → List Chain) (v : Maybe ℕ) (to : ℕ) (ch : Chain) → v ≡ just to → Among ch (f to) → Among ch (listed v f)
-  among_listed f v to ch e m = subst (λ (u : Maybe ℕ). Among ch (listed u f)) (sym e) m
+  among_listed : (f : ℕ → List Chain) (v : Option ℕ) (to : ℕ) (ch : Chain) → v ≡ Some to → Among ch (f to) → Among ch (listed v f)
+  among_listed f v to ch e m = subst (λ (u : Option ℕ). Among ch (listed u f)) (sym e) m
 
-  among_by : (P : List ℕ → Type 0) (more : List ℕ → List Chain) (st ks : List ℕ) → GrownBy t P st ks → (i j k to : ℕ) (ch : Chain) → nth ks i ≡ just k → landing t (rule_of t k) st ≡ just to
+  among_by : (P : List ℕ → Type 0) (more : List ℕ → List Chain) (st ks : List ℕ) → GrownBy t P st ks → (i j k to : ℕ) (ch : Chain) → nth ks i ≡ Some k → landing t (rule_of t k) st ≡ Some to
       → (P (to ∷ drop (rule_of t k).len st) → Among ch (more (to ∷ drop (rule_of t k).len st))) → Among ((j + i) ∷ ch) (chains_by t more st j ks)
   unfolding chains_by landing
   among_by P more st [] g i j k to ch e l h = absurd (subst IsJust (sym e) tt)
@@ -151,9 +152,9 @@ module _ (t : Table) (cls : ℕ) where
   different_map i [] d = tt
   different_map i (a ∷ l) d = (λ m. let q = map_among i (i ∷ a) l m in d.0 (Memᴰ.cast (ap tail q.1) q.2), different_map i l d.1)
 
-  different_listed : (v : Maybe ℕ) (f : ℕ → List Chain) → ((to : ℕ) → Different (f to)) → Different (listed v f)
-  different_listed nothing f h = tt
-  different_listed (just to) f h = h to
+  different_listed : (v : Option ℕ) (f : ℕ → List Chain) → ((to : ℕ) → Different (f to)) → Different (listed v f)
+  different_listed None f h = tt
+  different_listed (Some to) f h = h to
 
   different_by : (more : List ℕ → List Chain) → ((st : List ℕ) → Different (more st)) → (st : List ℕ) (j : ℕ) (ks : List ℕ) → Different (chains_by t more st j ks)
   unfolding chains_by

@@ -5,7 +5,8 @@ use mathlib.Core.List.{List, [], ◌∷◌}
 use mathlib.Core.Bool.{false}
 use lib.ListN.{length, drop, length-drop}
 use lib.Dec.{ltb, nltb→le}
-use Rattle.meaning.specs.Basics.{both, Maybe, nothing, just}
+use Rattle.std.specs.Prelude.{Option, None, Some}
+use Rattle.meaning.specs.Basics.{both}
 use Rattle.meaning.specs.TableFile.{Table, ActionRecord, rule_of}
 use Rattle.meaning.specs.TableRight.{shifts}
 use Rattle.meaning.specs.Chains.{record_at}
@@ -16,23 +17,23 @@ use Rattle.meaning.proofs.Booleans.{is_false}
 
 -- a walk from height h that nowhere goes above 64
 abbrev pub Low : Table → Walk → ℕ → Type 0
-Low t (shift nothing) h = Unit {0}
-Low t (shift (just to)) h = h + 1 ≤ 64
+Low t (shift None) h = Unit {0}
+Low t (shift (Some to)) h = h + 1 ≤ 64
 Low t (reduce k to below beside) h = Low t below (suc (h - (rule_of t k).len)) × Low t beside h
 
-abbrev Room : Maybe ℕ → ℕ → Type 0
-Room nothing h = Unit {0}
-Room (just to) h = h + 1 ≤ 64
+abbrev Room : Option ℕ → ℕ → Type 0
+Room None h = Unit {0}
+Room (Some to) h = h + 1 ≤ 64
 
-end_low : (t : Table) (room : ℕ) (sh : Maybe ℕ) (h n c : ℕ) (w : Walk) (n' c' : ℕ) → Room sh h → end_chain room sh n c ≡ walked w n' c' → Low t w h
+end_low : (t : Table) (room : ℕ) (sh : Option ℕ) (h n c : ℕ) (w : Walk) (n' c' : ℕ) → Room sh h → end_chain room sh n c ≡ walked w n' c' → Low t w h
 unfolding end_chain
-end_low t room nothing h n c w n' c' g e = subst (λ (v : Walk). Low t v h) (ap walk_of e) tt
-end_low t room (just to) h n c w n' c' g e = subst (λ (v : Walk). Low t v h) (ap walk_of (if_yes (ltb c room) TooManyReadings (walked (shift (just to)) n (c + 1)) e).1) g
+end_low t room None h n c w n' c' g e = subst (λ (v : Walk). Low t v h) (ap walk_of e) tt
+end_low t room (Some to) h n c w n' c' g e = subst (λ (v : Walk). Low t v h) (ap walk_of (if_yes (ltb c room) TooManyReadings (walked (shift (Some to)) n (c + 1)) e).1) g
 
 abbrev pub LowGo : Table → (List ℕ → ℕ → ℕ → Walked) → Type 0
 LowGo t go = (st : List ℕ) (n c : ℕ) (w : Walk) (n' c' : ℕ) → go st n c ≡ walked w n' c' → Low t w (length st)
 
-rules_low : (t : Table) (room left : ℕ) (go : List ℕ → ℕ → ℕ → Walked) → LowGo t go → (sh : Maybe ℕ) (st ks : List ℕ) → Room sh (length st)
+rules_low : (t : Table) (room left : ℕ) (go : List ℕ → ℕ → ℕ → Walked) → LowGo t go → (sh : Option ℕ) (st ks : List ℕ) → Room sh (length st)
     → (n c : ℕ) (w : Walk) (n' c' : ℕ) → walk_rules t room left go sh st ks n c ≡ walked w n' c' → Low t w (length st)
 unfolding walk_rules
 rules_low t room left go low sh st [] g n c w n' c' e = end_low t room sh (length st) n c w n' c' g e
@@ -45,9 +46,9 @@ rules_low t room left go low sh st (k ∷ ks) g n c w n' c' e =
       rules_low t room left go low sh st ks g z.n z.c y.w y.n y.c y.is,
     )
 
-room_at : (sh : Maybe ℕ) (h : ℕ) → both (shifts sh) (ltb 64 (h + 1)) ≡ false → Room sh h
-room_at nothing h e = tt
-room_at (just to) h e = nltb→le 64 (h + 1) (is_false e)
+room_at : (sh : Option ℕ) (h : ℕ) → both (shifts sh) (ltb 64 (h + 1)) ≡ false → Room sh h
+room_at None h e = tt
+room_at (Some to) h e = nltb→le 64 (h + 1) (is_false e)
 
 state_low : (t : Table) (room left : ℕ) (go : List ℕ → ℕ → ℕ → Walked) → LowGo t go → (a : ActionRecord) (st : List ℕ) (n c : ℕ) (w : Walk) (n' c' : ℕ)
     → walk_state t room left go a st n c ≡ walked w n' c' → Low t w (length st)

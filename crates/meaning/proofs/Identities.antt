@@ -6,8 +6,9 @@ use mathlib.Core.List.{List, [], ◌∷◌, ◌++◌, map, reverse}
 use mathlib.Core.Bool.{Bool, true, false, not}
 use lib.Dec.{ltb, eqb, T, eqb→eq, eqb_refl}
 use native.Mathlib.Omega.{arith}
-use Rattle.meaning.specs.Basics.{either, Maybe, nothing, just, is_nil, AllOf}
-use Rattle.std.specs.Prelude.{if◌then◌else◌}
+use Rattle.std.proofs.lemmas.List.{map-append}
+use Rattle.meaning.specs.Basics.{either, is_nil, AllOf}
+use Rattle.std.specs.Prelude.{if◌then◌else◌, Option, None, Some}
 use Rattle.meaning.specs.TableFile.{Table, rule_of}
 use Rattle.meaning.specs.Readings.{Entry, Reading, states, holds, held_by}
 use Rattle.meaning.specs.Walk.{Walk, shift, reduce, Walked, refused, walked, plan, ends}
@@ -20,7 +21,7 @@ use Rattle.meaning.specs.declared.Rule.{Rule}
 use Rattle.meaning.specs.declared.Term.{Term}
 use Rattle.meaning.specs.declared.ErrorRecord.{ErrorRecord}
 use Rattle.meaning.specs.declared.Refusal.TheVariants.{TooManyReadings}
-use Rattle.meaning.proofs.Tools.{map_append, map_reverse, nil_map, all_append}
+use Rattle.meaning.proofs.Tools.{map_reverse, nil_map, all_append}
 use Rattle.meaning.proofs.Renamed.{states_ren, span_ren, end_ren, act_ren, reduced_ren, refused_ren, unplanned_all}
 use Rattle.meaning.proofs.Leads.{TargetsIn}
 use Rattle.meaning.proofs.Kept.{OfEntries, Made, made_none, made_joined, MadeOf, Passes, recover_made, recover_all_made, apply_grows}
@@ -43,7 +44,7 @@ module _ (ρ : ℕ → ℕ) where
   ro o = record { results = map rr o.results; errors = o.errors; next = ρ o.next }
 
   joined_ren : (d o : Applied) → joined (ro d) (ro o) ≡ ro (joined d o)
-  joined_ren d o = ap {B = Applied} (λ l. record { results = l; errors = d.errors ++ o.errors; next = ρ o.next }) (sym (map_append rr d.results o.results))
+  joined_ren d o = ap {B = Applied} (λ l. record { results = l; errors = d.errors ++ o.errors; next = ρ o.next }) (sym (map-append rr d.results o.results))
 
 -- ρ keeps the births from n₀ on in their order, and keeps apart the identities that occur
 module _ (ρ : ℕ → ℕ) (n₀ : ℕ) (P : ℕ → Type 0) (apart : (a b : ℕ) → P a → P b → ρ a ≡ ρ b → a ≡ b) (births : (m : ℕ) → n₀ ≤ m → ρ (m + 1) ≡ ρ m + 1) (born : (m : ℕ) → n₀ ≤ m → P m) (t : Table) where
@@ -62,8 +63,8 @@ module _ (ρ : ℕ → ℕ) (n₀ : ℕ) (P : ℕ → Type 0) (apart : (a b : �
 
   apply_ren : (x : Term) (w : Walk) (r : Reading) (n : ℕ) → n₀ ≤ n → apply t x w (rr ρ r) (ρ n) ≡ ro ρ (apply t x w r n)
   unfolding apply shifted
-  apply_ren x (shift nothing) r n l = refl
-  apply_ren x (shift (just to)) r n l = ap {B = Applied} (λ m. one_result (rr ρ (shifted x to r n)) m) (sym (births n l))
+  apply_ren x (shift None) r n l = refl
+  apply_ren x (shift (Some to)) r n l = ap {B = Applied} (λ m. one_result (rr ρ (shifted x to r n)) m) (sym (births n l))
   apply_ren x (reduce k to below beside) r n l =
       ap (λ (a : Applied). then_applied a (λ m. apply t x beside (rr ρ r) m)) (part_ren (ends below) (act_on q r.stack) (act_ren ρ q r.stack) (λ v. apply_ren x below (red v) (n + 1) (omega arith)))
       ∙ ap (joined (ro ρ part)) (apply_ren x beside r part.next (let g = part_grows (ends below) (act_on q r.stack) in omega arith))
@@ -75,28 +76,28 @@ module _ (ρ : ℕ → ℕ) (n₀ : ℕ) (P : ℕ → Type 0) (apart : (a b : �
       red : ℕ → Reading
       red v = reduced q to v r n
 
-      part_of : Bool → Maybe ℕ → (ℕ → Applied) → Reading → ℕ → Applied
+      part_of : Bool → Option ℕ → (ℕ → Applied) → Reading → ℕ → Applied
       part_of b m f r' n' = if b then if_acts m f (one_error (refused_action t k r') n') else nothing_applied n'
 
       part : Applied
       part = part_of (ends below) (act_on q r.stack) (λ v. apply t x below (red v) (n + 1)) r n
 
-      part_grows : (b : Bool) (m : Maybe ℕ) → n ≤ (part_of b m (λ v. apply t x below (red v) (n + 1)) r n).next
-      part_grows true nothing = omega arith
-      part_grows true (just v) = let g = apply_grows t x below (red v) (n + 1) in omega arith
-      part_grows false nothing = omega arith
-      part_grows false (just v) = omega arith
+      part_grows : (b : Bool) (m : Option ℕ) → n ≤ (part_of b m (λ v. apply t x below (red v) (n + 1)) r n).next
+      part_grows true None = omega arith
+      part_grows true (Some v) = let g = apply_grows t x below (red v) (n + 1) in omega arith
+      part_grows false None = omega arith
+      part_grows false (Some v) = omega arith
 
-      part_at : (b : Bool) (m : Maybe ℕ) → ((v : ℕ) → apply t x below (rr ρ (red v)) (ρ (n + 1)) ≡ ro ρ (apply t x below (red v) (n + 1)))
+      part_at : (b : Bool) (m : Option ℕ) → ((v : ℕ) → apply t x below (rr ρ (red v)) (ρ (n + 1)) ≡ ro ρ (apply t x below (red v) (n + 1)))
           → part_of b m (λ v. apply t x below (reduced q to v (rr ρ r) (ρ n)) (ρ n + 1)) (rr ρ r) (ρ n) ≡ ro ρ (part_of b m (λ v. apply t x below (red v) (n + 1)) r n)
-      part_at true nothing h = ap {B = Applied} (λ (e : ErrorRecord). one_error e (ρ n)) (refused_ren ρ t k r)
-      part_at true (just v) h = ap₂ {C = Applied} (λ (r' : Reading) (m : ℕ). apply t x below r' m) (reduced_ren ρ q to v r n) (sym (births n l)) ∙ h v
-      part_at false nothing h = refl
-      part_at false (just v) h = refl
+      part_at true None h = ap {B = Applied} (λ (e : ErrorRecord). one_error e (ρ n)) (refused_ren ρ t k r)
+      part_at true (Some v) h = ap₂ {C = Applied} (λ (r' : Reading) (m : ℕ). apply t x below r' m) (reduced_ren ρ q to v r n) (sym (births n l)) ∙ h v
+      part_at false None h = refl
+      part_at false (Some v) h = refl
 
-      part_ren : (b : Bool) (m : Maybe ℕ) → act_on q (map (re ρ) r.stack) ≡ m → ((v : ℕ) → apply t x below (rr ρ (red v)) (ρ (n + 1)) ≡ ro ρ (apply t x below (red v) (n + 1)))
+      part_ren : (b : Bool) (m : Option ℕ) → act_on q (map (re ρ) r.stack) ≡ m → ((v : ℕ) → apply t x below (rr ρ (red v)) (ρ (n + 1)) ≡ ro ρ (apply t x below (red v) (n + 1)))
           → part_of b (act_on q (map (re ρ) r.stack)) (λ v. apply t x below (reduced q to v (rr ρ r) (ρ n)) (ρ n + 1)) (rr ρ r) (ρ n) ≡ ro ρ (part_of b m (λ v. apply t x below (red v) (n + 1)) r n)
-      part_ren b m e h = ap (λ (m' : Maybe ℕ). part_of b m' (λ v. apply t x below (reduced q to v (rr ρ r) (ρ n)) (ρ n + 1)) (rr ρ r) (ρ n)) e ∙ part_at b m h
+      part_ren b m e h = ap (λ (m' : Option ℕ). part_of b m' (λ v. apply t x below (reduced q to v (rr ρ r) (ρ n)) (ρ n + 1)) (rr ρ r) (ρ n)) e ∙ part_at b m h
 
   -- The first planning.
   abbrev rps : List (Reading × Walk) → List (Reading × Walk)
@@ -205,7 +206,7 @@ module _ (ρ : ℕ → ℕ) (n₀ : ℕ) (P : ℕ → Type 0) (apart : (a b : �
   unfolding recover_all
   recover_all_ren [] d w c h o = refl
   recover_all_ren (r ∷ ls) d w c h o =
-      ap (λ (held : List Reading). then_stage (recover_one t held r.mark (map (re ρ) r.stack) (map (re ρ) r.stack) 0 (ρ d.next) w c) on') (sym (map_append (rr ρ) ls d.results))
+      ap (λ (held : List Reading). then_stage (recover_one t held r.mark (map (re ρ) r.stack) (map (re ρ) r.stack) 0 (ρ d.next) w c) on') (sym (map-append (rr ρ) ls d.results))
       ∙ ap (λ (p : Stage). then_stage p on')
       (recover_one_ren (ls ++ d.results) r.mark r.stack r.stack 0 d.next w c h.grows (all_append (OfEntries Own) ls d.results o.1 h.of) o.0)
       ∙ then_ren (recover_one t (ls ++ d.results) r.mark r.stack r.stack 0 d.next w c)

@@ -6,8 +6,8 @@ use mathlib.Core.List.{List, [], ◌∷◌, ◌++◌, reverse}
 use lib.Dec.{ltb}
 use lib.ListN.{drop}
 use native.Mathlib.Omega.{arith}
-use Rattle.meaning.specs.Basics.{either, Maybe, nothing, just, is_nil, AllOf}
-use Rattle.std.specs.Prelude.{if◌then◌else◌}
+use Rattle.meaning.specs.Basics.{either, is_nil, AllOf}
+use Rattle.std.specs.Prelude.{if◌then◌else◌, Option, None, Some}
 use Rattle.meaning.specs.TableFile.{Table, rule_of}
 use Rattle.meaning.specs.Readings.{Entry, Reading, states}
 use Rattle.meaning.specs.Walk.{Walk, shift, reduce, Walked, refused, walked, plan, ends}
@@ -59,8 +59,8 @@ module _ (P : Entry → Type 0) where
 module _ (P : Entry → Type 0) (R : ℕ → Type 0) (n₀ : ℕ) (new : Passes P R n₀) (t : Table) where
   apply_made : (x : Term) (w : Walk) → Leads R w → (r : Reading) (n : ℕ) → n₀ ≤ n → OfEntries P r → Made P n (apply t x w r n)
   unfolding apply shifted reduced
-  apply_made x (shift nothing) k r n l h = made_none P n
-  apply_made x (shift (just to)) k r n l h =
+  apply_made x (shift None) k r n l h = made_none P n
+  apply_made x (shift (Some to)) k r n l h =
       record { grows = omega arith; of = ((new.born (record { born = n; state = to; value = x.value; start = x.start; end = x.end }) l k, h), tt) }
   apply_made x (reduce k to below beside) leads r n l h =
       let part-made = at (ends below) (act_on (rule_of t k) r.stack) (λ v. apply_made x below leads.1 (red v) (n + 1) (omega arith) (red_of v)) in
@@ -73,17 +73,17 @@ module _ (P : Entry → Type 0) (R : ℕ → Type 0) (n₀ : ℕ) (new : Passes 
       red_of : (v : ℕ) → OfEntries P (red v)
       red_of v = (new.born _ l leads.0, all_drop P (rule_of t k).len r.stack h)
 
-      part_of : Bool → Maybe ℕ → Applied
+      part_of : Bool → Option ℕ → Applied
       part_of b m = if b then if_acts m (λ v. apply t x below (red v) (n + 1)) (one_error (refused_action t k r) n) else nothing_applied n
 
       part : Applied
       part = part_of (ends below) (act_on (rule_of t k) r.stack)
 
-      at : (b : Bool) (m : Maybe ℕ) → ((v : ℕ) → Made P (n + 1) (apply t x below (red v) (n + 1))) → Made P n (part_of b m)
-      at true nothing f = record { grows = omega arith; of = tt }
-      at true (just v) f = let g = (f v).grows in record { grows = omega arith; of = (f v).of }
-      at false nothing f = made_none P n
-      at false (just v) f = made_none P n
+      at : (b : Bool) (m : Option ℕ) → ((v : ℕ) → Made P (n + 1) (apply t x below (red v) (n + 1))) → Made P n (part_of b m)
+      at true None f = record { grows = omega arith; of = tt }
+      at true (Some v) f = let g = (f v).grows in record { grows = omega arith; of = (f v).of }
+      at false None f = made_none P n
+      at false (Some v) f = made_none P n
 
   module _ (targets : TargetsIn R t) where
     -- Recovery's first stage.
@@ -223,8 +223,8 @@ anything [] = tt
 anything (e ∷ s) = (tt, anything s)
 
 anywhere : (w : Walk) → Leads (λ to. Unit {0}) w
-anywhere (shift nothing) = tt
-anywhere (shift (just to)) = tt
+anywhere (shift None) = tt
+anywhere (shift (Some to)) = tt
 anywhere (reduce k to below beside) = (tt, anywhere below, anywhere beside)
 
 pub apply_grows : (t : Table) (x : Term) (w : Walk) (r : Reading) (n : ℕ) → n ≤ (apply t x w r n).next

@@ -4,7 +4,8 @@ use mathlib.Core.Path.{◌≡◌, refl, ap, subst}
 use mathlib.Core.List.{List, [], ◌∷◌}
 use lib.Dec.{ltb}
 use lib.ListN.{length, get_or, drop}
-use Rattle.meaning.specs.Basics.{both, Maybe, nothing, just}
+use Rattle.std.specs.Prelude.{Option, None, Some}
+use Rattle.meaning.specs.Basics.{both}
 use Rattle.meaning.specs.TableFile.{Table, ActionRecord, action_of, goto_of, rule_of}
 use Rattle.meaning.specs.TableRight.{shifts}
 use Rattle.meaning.specs.Chains.{record_at}
@@ -14,28 +15,28 @@ use Rattle.meaning.proofs.Trees.{refused_not, if_not, if_yes, reduces, walk_of}
 
 -- R holds of every target of the walk
 abbrev pub Leads : (ℕ → Type 0) → Walk → Type 0
-Leads R (shift nothing) = Unit {0}
-Leads R (shift (just to)) = R to
+Leads R (shift None) = Unit {0}
+Leads R (shift (Some to)) = R to
 Leads R (reduce k to below beside) = R to × Leads R below × Leads R beside
 
 -- R holds of every target in the table
 pub record TargetsIn (R : ℕ → Type 0) (t : Table) : Type 0 where
-  pub gotos : (state left to : ℕ) → goto_of t state left ≡ just to → R to
-  pub shifted : (state class to : ℕ) → (action_of t state class).shift ≡ just to → R to
+  pub gotos : (state left to : ℕ) → goto_of t state left ≡ Some to → R to
+  pub shifted : (state class to : ℕ) → (action_of t state class).shift ≡ Some to → R to
 
 module _ (R : ℕ → Type 0) (t : Table) (targets : TargetsIn R t) where
-  abbrev Shifts : Maybe ℕ → Type 0
-  Shifts sh = (to : ℕ) → sh ≡ just to → R to
+  abbrev Shifts : Option ℕ → Type 0
+  Shifts sh = (to : ℕ) → sh ≡ Some to → R to
 
-  end_leads : (room : ℕ) (sh : Maybe ℕ) (n c : ℕ) (w : Walk) (n' c' : ℕ) → Shifts sh → end_chain room sh n c ≡ walked w n' c' → Leads R w
+  end_leads : (room : ℕ) (sh : Option ℕ) (n c : ℕ) (w : Walk) (n' c' : ℕ) → Shifts sh → end_chain room sh n c ≡ walked w n' c' → Leads R w
   unfolding end_chain
-  end_leads room nothing n c w n' c' s e = subst (Leads R) (ap walk_of e) tt
-  end_leads room (just to) n c w n' c' s e = subst (Leads R) (ap walk_of (if_yes (ltb c room) TooManyReadings (walked (shift (just to)) n (c + 1)) e).1) (s to refl)
+  end_leads room None n c w n' c' s e = subst (Leads R) (ap walk_of e) tt
+  end_leads room (Some to) n c w n' c' s e = subst (Leads R) (ap walk_of (if_yes (ltb c room) TooManyReadings (walked (shift (Some to)) n (c + 1)) e).1) (s to refl)
 
   abbrev LeadsFrom : (List ℕ → ℕ → ℕ → Walked) → Type 0
   LeadsFrom deeper = (st : List ℕ) (n c : ℕ) (w : Walk) (n' c' : ℕ) → deeper st n c ≡ walked w n' c' → Leads R w
 
-  rules_lead : (room left : ℕ) (deeper : List ℕ → ℕ → ℕ → Walked) → LeadsFrom deeper → (sh : Maybe ℕ) → Shifts sh → (st ks : List ℕ) (n c : ℕ) (w : Walk) (n' c' : ℕ)
+  rules_lead : (room left : ℕ) (deeper : List ℕ → ℕ → ℕ → Walked) → LeadsFrom deeper → (sh : Option ℕ) → Shifts sh → (st ks : List ℕ) (n c : ℕ) (w : Walk) (n' c' : ℕ)
       → walk_rules t room left deeper sh st ks n c ≡ walked w n' c' → Leads R w
   unfolding walk_rules
   rules_lead room left deeper go sh s st [] n c w n' c' e = end_leads room sh n c w n' c' s e

@@ -7,8 +7,8 @@ use lib.Dec.{leb, ltb, eqb}
 use lib.ListN.{length, get_or, drop}
 use borrow.Author.Tests.{ltb-true, leb-false}
 use native.Mathlib.Omega.{arith}
-use Rattle.meaning.specs.Basics.{both, Maybe, nothing, just}
-use Rattle.std.specs.Prelude.{if◌then◌else◌}
+use Rattle.meaning.specs.Basics.{both}
+use Rattle.std.specs.Prelude.{if◌then◌else◌, Option, None, Some}
 use Rattle.meaning.specs.Limits.{max_walked}
 use Rattle.meaning.specs.TableFile.{Table, ActionRecord, goto_of, rule_of}
 use Rattle.meaning.specs.TableRight.{shifts}
@@ -36,15 +36,15 @@ module _ (room : ℕ) where
   then_bounded n c (refused k) f h g = tt
   then_bounded n c (walked w n' c') f h g = later_bounded n c n' c' h.0 h.1 (f w n' c') (g w n' c')
 
-  goto_bounded : (n c : ℕ) (m : Maybe ℕ) (f : ℕ → Walked) → ((to : ℕ) → WalkBounded room n c (f to)) → WalkBounded room n c (or_no_goto m f)
-  goto_bounded n c nothing f h = tt
-  goto_bounded n c (just to) f h = h to
+  goto_bounded : (n c : ℕ) (m : Option ℕ) (f : ℕ → Walked) → ((to : ℕ) → WalkBounded room n c (f to)) → WalkBounded room n c (or_no_goto m f)
+  goto_bounded n c None f h = tt
+  goto_bounded n c (Some to) f h = h to
 
   -- a chain ends only where there is room for it
-  end_bounded : (sh : Maybe ℕ) (n c : ℕ) → WalkBounded room n c (end_chain room sh n c)
+  end_bounded : (sh : Option ℕ) (n c : ℕ) → WalkBounded room n c (end_chain room sh n c)
   unfolding end_chain
-  end_bounded nothing n c = (λ l. l, λ l. l)
-  end_bounded (just to) n c = if_bounded n c (has_room room c) _ _ (λ e. let less : c < room = search (ltb-true) in (λ l. l, λ l. omega arith)) (λ e. tt)
+  end_bounded None n c = (λ l. l, λ l. l)
+  end_bounded (Some to) n c = if_bounded n c (has_room room c) _ _ (λ e. let less : c < room = search (ltb-true) in (λ l. l, λ l. omega arith)) (λ e. tt)
 
   -- a reduction is walked only where it is not one too many
   reduction_bounded : (t : Table) (q : Rule) (st : List ℕ) (left n c : ℕ) (go : ℕ → List ℕ → Walked) → (n < max_walked → (to : ℕ) (rest : List ℕ) → WalkBounded room n c (go to rest)) → WalkBounded room n c (reduction t q st left n go)
@@ -60,7 +60,7 @@ module _ (room : ℕ) where
   abbrev GoesBounded : (List ℕ → ℕ → ℕ → Walked) → Type 0
   GoesBounded deeper = (st : List ℕ) (n c : ℕ) → WalkBounded room n c (deeper st n c)
 
-  rules_bounded : (t : Table) (left : ℕ) (deeper : List ℕ → ℕ → ℕ → Walked) → GoesBounded deeper → (sh : Maybe ℕ) (st ks : List ℕ) (n c : ℕ) → WalkBounded room n c (walk_rules t room left deeper sh st ks n c)
+  rules_bounded : (t : Table) (left : ℕ) (deeper : List ℕ → ℕ → ℕ → Walked) → GoesBounded deeper → (sh : Option ℕ) (st ks : List ℕ) (n c : ℕ) → WalkBounded room n c (walk_rules t room left deeper sh st ks n c)
   unfolding walk_rules
   rules_bounded t left deeper h sh st [] n c = end_bounded sh n c
   rules_bounded t left deeper h sh st (k ∷ ks) n c =

@@ -6,20 +6,18 @@ use mathlib.Core.Bool.{Bool, true, false}
 use lib.ListN.{length, get_or, drop}
 use lib.Dec.{leb, ltb, eqb, nleb→lt, nltb→le}
 use native.Mathlib.Omega.{arith}
-use Rattle.meaning.specs.Basics.{both, Maybe, nothing, just}
-use Rattle.std.specs.Prelude.{if◌then◌else◌}
-use Rattle.meaning.specs.Answers.{number}
+use Rattle.meaning.specs.Basics.{both}
+use Rattle.std.specs.Prelude.{Ok, Err, if◌then◌else◌, Option, None, Some}
+use Rattle.meaning.specs.Answers.{QuestionAnswer, number}
 use Rattle.meaning.specs.TableFile.{Table, ActionRecord, goto_of, rule_of}
 use Rattle.meaning.specs.TableRight.{shifts}
 use Rattle.meaning.specs.Readings.{Reading, states}
 use Rattle.meaning.specs.Chains.{record_at}
-use Rattle.meaning.specs.Walk.{Walk, shift, reduce, Walked, refused, walked, and_then, end_chain, or_no_goto, reduction, walk_rules, walk_state, walk_from, plan, ends}
+use Rattle.meaning.specs.Walk.{Walk, shift, reduce, Walked, refused, walked, and_then, end_chain, or_no_goto, reduction, walk_rules, walk_state, walk_from, plan}
 use Rattle.meaning.specs.Questions.{enough_room, planned, can_plan, or_else, takes, can_end, recovers_from, some_recovers, can_recover}
 use Rattle.meaning.specs.declared.Rule.{Rule}
 use Rattle.meaning.specs.declared.Refusal.{Refusal}
 use Rattle.meaning.specs.declared.Refusal.TheVariants.{ReachesStart, TooHigh, ChainTooLong, WalkTooLong, TooManyReadings}
-use Rattle.meaning.specs.declared.QuestionAnswer.{QuestionAnswer}
-use Rattle.meaning.specs.declared.QuestionAnswer.TheVariants.{Yes, No, Refused}
 use Rattle.meaning.proofs.Booleans.{is_false}
 
 abbrev From6To10 : Refusal → Type 0
@@ -34,17 +32,17 @@ if_slow : (n c : ℕ) (b : Bool) (x y : Walked) → Slow n c x → (b ≡ false 
 if_slow n c true x y h g = h
 if_slow n c false x y h g = g refl
 
-goto_slow : (n c : ℕ) (m : Maybe ℕ) (f : ℕ → Walked) → ((to : ℕ) → Slow n c (f to)) → Slow n c (or_no_goto m f)
-goto_slow n c nothing f h = (omega arith, omega arith)
-goto_slow n c (just to) f h = h to
+goto_slow : (n c : ℕ) (m : Option ℕ) (f : ℕ → Walked) → ((to : ℕ) → Slow n c (f to)) → Slow n c (or_no_goto m f)
+goto_slow n c None f h = (omega arith, omega arith)
+goto_slow n c (Some to) f h = h to
 
 -- every chain that ends finds room: there are no more chains than reductions, and at most 1,024 of these
-end_slow : (sh : Maybe ℕ) (n c : ℕ) → c ≤ n → n ≤ 1024 → Slow n c (end_chain enough_room sh n c)
+end_slow : (sh : Option ℕ) (n c : ℕ) → c ≤ n → n ≤ 1024 → Slow n c (end_chain enough_room sh n c)
 unfolding end_chain
-end_slow nothing n c l f = (omega arith, omega arith, f)
-end_slow (just to) n c l f = at (ltb c enough_room) refl
+end_slow None n c l f = (omega arith, omega arith, f)
+end_slow (Some to) n c l f = at (ltb c enough_room) refl
   where
-    at : (b : Bool) → ltb c enough_room ≡ b → Slow n c (if b then walked (shift (just to)) n (c + 1) else refused TooManyReadings)
+    at : (b : Bool) → ltb c enough_room ≡ b → Slow n c (if b then walked (shift (Some to)) n (c + 1) else refused TooManyReadings)
     at true e = (omega arith, omega arith, f)
     at false e = let g : enough_room ≤ c = nltb→le c enough_room (is_false e) in absurd (omega arith)
 
@@ -61,7 +59,7 @@ reduction_slow t q st left n c go h =
     if_slow n c (ltb 64 (length (drop q.len st) + 1)) (refused TooHigh) _ (omega arith, omega arith) λ _.
     h (nleb→lt 1024 n (is_false few)) to
 
-rules_slow : (t : Table) (left : ℕ) (deeper : List ℕ → ℕ → ℕ → Walked) → SlowFrom deeper → (sh : Maybe ℕ) (st ks : List ℕ) (n c : ℕ) → c ≤ n → n ≤ 1024
+rules_slow : (t : Table) (left : ℕ) (deeper : List ℕ → ℕ → ℕ → Walked) → SlowFrom deeper → (sh : Option ℕ) (st ks : List ℕ) (n c : ℕ) → c ≤ n → n ≤ 1024
     → Slow n c (walk_rules t enough_room left deeper sh st ks n c)
 unfolding walk_rules
 rules_slow t left deeper h sh st [] n c l f = end_slow sh n c l f
@@ -100,26 +98,21 @@ walk_slow (suc left) t class st n c l f = state_slow t (suc left) (λ st' n' c'.
 
 -- The questions.
 abbrev pub OnlyFrom6To10 : QuestionAnswer → Type 0
-OnlyFrom6To10 Yes = Unit {0}
-OnlyFrom6To10 No = Unit {0}
-OnlyFrom6To10 (Refused k) = From6To10 k
+OnlyFrom6To10 (Ok b) = Unit {0}
+OnlyFrom6To10 (Err k) = From6To10 k
 
 or_only : (a b : QuestionAnswer) → OnlyFrom6To10 a → OnlyFrom6To10 b → OnlyFrom6To10 (or_else a b)
-or_only Yes b h g = tt
-or_only No b h g = g
-or_only (Refused k) b h g = h
+or_only (Ok true) b h g = tt
+or_only (Ok false) b h g = g
+or_only (Err k) b h g = h
 
 plan_only : (t : Table) (class : ℕ) (st : List ℕ) → OnlyFrom6To10 (can_plan t class st)
 unfolding can_plan plan
 plan_only t class st = at (walk_from 32 t enough_room class st 0 0) (walk_slow 32 t class st 0 0 (omega arith) (omega arith))
   where
-    yes_no : (b : Bool) → OnlyFrom6To10 (if b then Yes else No)
-    yes_no true = tt
-    yes_no false = tt
-
     at : (v : Walked) → Slow 0 0 v → OnlyFrom6To10 (planned v)
     at (refused k) h = h
-    at (walked w n c) h = yes_no (ends w)
+    at (walked w n c) h = tt
 
 pub takes_only : (t : Table) (class : ℕ) (rs : List Reading) → OnlyFrom6To10 (takes t class rs)
 unfolding takes
@@ -144,6 +137,6 @@ pub can_recover_only : (t : Table) (rs : List Reading) → OnlyFrom6To10 (can_re
 unfolding can_recover
 can_recover_only t rs = at t.recovers
   where
-    at : (b : Bool) → OnlyFrom6To10 (if b then some_recovers t rs else No)
+    at : (b : Bool) → OnlyFrom6To10 (if b then some_recovers t rs else Ok false)
     at true = some_only t rs
     at false = tt

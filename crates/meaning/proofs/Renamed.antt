@@ -3,7 +3,7 @@ use Prim.Native.Nat.{ℕ, zero, suc, ◌-◌}
 use mathlib.Core.Path.{◌≡◌, refl, ap, ap₂, ◌∙◌}
 use mathlib.Core.List.{List, [], ◌∷◌, map}
 use lib.ListN.{get_or, drop}
-use Rattle.meaning.specs.Basics.{Maybe}
+use Rattle.std.specs.Prelude.{Option}
 use Rattle.meaning.specs.TableFile.{Table, state_no, rule_of}
 use Rattle.meaning.specs.Kinds.{act}
 use Rattle.meaning.specs.Readings.{Entry, Reading, no_entry, top, states}
@@ -43,7 +43,7 @@ module _ (ρ : ℕ → ℕ) where
 
   pub act_ren : (q : Rule) (s : List Entry) → act_on q (map (ren_entry ρ) s) ≡ act_on q s
   unfolding act_on
-  act_ren q s = ap₂ {C = Maybe ℕ} (act q) (item_ren s q.len 1) (item_ren s q.len q.pick)
+  act_ren q s = ap₂ {C = Option ℕ} (act q) (item_ren s q.len 1) (item_ren s q.len q.pick)
 
   pub reduced_ren : (q : Rule) (to v : ℕ) (r : Reading) (n : ℕ) → reduced q to v (ren_reading ρ r) (ρ n) ≡ ren_reading ρ (reduced q to v r n)
   unfolding reduced

@@ -4,6 +4,7 @@ use mathlib.Core.Path.{◌≡◌, refl, sym, ap, ap₂, ◌∙◌, subst}
 use mathlib.Core.List.{List, [], ◌∷◌, ◌++◌, map, reverse}
 use mathlib.Core.Bool.{Bool, true, false, not}
 use native.Mathlib.Omega.{arith}
+use Rattle.std.proofs.lemmas.List.{map-append}
 use Rattle.meaning.specs.Basics.{either, is_nil, flat, AllOf}
 use Rattle.std.specs.Prelude.{if◌then◌else◌}
 use Rattle.meaning.specs.Answers.{number}
@@ -22,7 +23,7 @@ use Rattle.meaning.proofs.Trees.{tree_from, Is, walk_is, walk_again}
 use Rattle.meaning.proofs.Plain.{got, errs, got_none, errs_none, apply_plain}
 use Rattle.meaning.proofs.Renamed.{states_ren, unplanned_all}
 use Rattle.meaning.proofs.Booleans.{IsTrue}
-use Rattle.meaning.proofs.Tools.{map_append, map_reverse, nil_map}
+use Rattle.meaning.proofs.Tools.{map_reverse, nil_map}
 
 -- a refusal's number is from 1 to 11
 pub number_range : (k : Refusal) → (1 ≤ number k) × (number k ≤ 11)
@@ -97,7 +98,7 @@ module _ (t : Table) (x : Term) where
       let hw = h.walked in
       let hc = h.chains in
       record {
-        results = λ m. map_append plain (apply t x tree r m).results (apply_all t x tk (apply t x tree r m).next).results
+        results = λ m. map-append plain (apply t x tree r m).results (apply_all t x tk (apply t x tree r m).next).results
             ∙ ap₂ {C = List Reading} (λ a b. a ++ b) ((apply_plain t x tree r m).0 ∙ ap (λ (v : Walk). got t x v (plain r)) is) (h.results (apply t x tree r m).next);
         errors = λ m. ap₂ {C = List ErrorRecord} (λ a b. a ++ b) ((apply_plain t x tree r m).1 ∙ ap (λ (v : Walk). errs t x v (plain r)) is) (h.errors (apply t x tree r m).next);
         left = h.left ∙ ap {B = List Reading} (λ (b : Bool). (if b then [] else plain r ∷ []) ++ flat (left_of t x) ps) (sym e ∙ ap ends is);

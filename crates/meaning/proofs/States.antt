@@ -5,8 +5,8 @@ use mathlib.Core.Bool.{Bool, true, false, not}
 use mathlib.Core.List.{List, [], ◌∷◌, map}
 use lib.Dec.{ltb, leb, T, ltb→lt}
 use lib.ListN.{length}
-use Rattle.meaning.specs.Basics.{both, either, Maybe, nothing, just, is_nil, every, AllOf, find}
-use Rattle.std.specs.Prelude.{if◌then◌else◌}
+use Rattle.meaning.specs.Basics.{both, either, is_nil, every, AllOf, find}
+use Rattle.std.specs.Prelude.{if◌then◌else◌, Option, None, Some}
 use Rattle.meaning.specs.TableFile.{ActionRecord, GotoRecord, view_of, places, rules_from, table_of, actions_of, gotos_of, is_pair, no_record, action_of, goto_of, start_class, target, start_state}
 use Rattle.meaning.specs.TableRight.{frame_right, rule_right, shifts, shift_right, rules_below, action_right, goto_right, Format, action_format, goto_format, key_of, ascends, fits, records_right, field_right, content_right, table_ok}
 use Rattle.meaning.specs.Readings.{Entry, Reading, start_reading}
@@ -32,17 +32,17 @@ find_all {A} {B} fits out none Q S f n (a ∷ l) h = at (fits a) (find_all fits 
     at true g = f a h.0
     at false g = g
 
-abbrev is_just : Maybe ℕ → Type 0
-is_just nothing = ⊥
-is_just (just to) = Unit {0}
+abbrev is_just : Option ℕ → Type 0
+is_just None = ⊥
+is_just (Some to) = Unit {0}
 
 below : (a b : ℕ) → ltb a b ≡ true → a < b
 below a b e = ltb→lt a b (subst T (sym e) tt)
 
-just_below : (m to to' : ℕ) → ltb to m ≡ true → just to ≡ just to' → to' < m
+just_below : (m to to' : ℕ) → ltb to m ≡ true → Some to ≡ Some to' → to' < m
 just_below m to to' e f = subst (λ (k : ℕ). k < m) (ap target f) (below to m e)
 
-action_below : (c : Counts) (a : ActionRecord) → action_right c a ≡ true → (to : ℕ) → a.shift ≡ just to → to < c.states
+action_below : (c : Counts) (a : ActionRecord) → action_right c a ≡ true → (to : ℕ) → a.shift ≡ Some to → to < c.states
 unfolding action_right
 action_below c a e to f = at a.shift (both_parts (shift_right c a.shift) (rules_below c a.rules) (both_parts leads full (both_parts key (both leads full) e).1).0).0 f
   where
@@ -55,11 +55,11 @@ action_below c a e to f = at a.shift (both_parts (shift_right c a.shift) (rules_
     full : Bool
     full = both (leb (length a.rules) 4) (either (shifts a.shift) (not (is_nil a.rules)))
 
-    at : (sh : Maybe ℕ) → shift_right c sh ≡ true → sh ≡ just to → to < c.states
-    at nothing g k = absurd (subst is_just (sym k) tt)
-    at (just to') g k = just_below c.states to' to g k
+    at : (sh : Option ℕ) → shift_right c sh ≡ true → sh ≡ Some to → to < c.states
+    at None g k = absurd (subst is_just (sym k) tt)
+    at (Some to') g k = just_below c.states to' to g k
 
-goto_below : (c : Counts) (g : GotoRecord) → goto_right c g ≡ true → (to : ℕ) → just g.target ≡ just to → to < c.states
+goto_below : (c : Counts) (g : GotoRecord) → goto_right c g ≡ true → (to : ℕ) → Some g.target ≡ Some to → to < c.states
 unfolding goto_right
 goto_below c g e to f = just_below c.states g.target to (both_parts (ltb g.nonterminal c.nonterminals) (ltb g.target c.states) (both_parts (ltb g.state c.states) (both (ltb g.nonterminal c.nonterminals) (ltb g.target c.states)) e).1).1 f
 
@@ -95,11 +95,11 @@ module _ (s : List ℕ) (ok : table_ok s ≡ true) where
   targets_below =
       let v = view_of s in
       record {
-        gotos = λ state left. find_all (λ (g : GotoRecord). is_pair state left g.state g.nonterminal) (λ (g : GotoRecord). just g.target) nothing (λ (g : GotoRecord). goto_right v.counts g ≡ true)
-            (λ (m : Maybe ℕ). (to : ℕ) → m ≡ just to → to < v.counts.states) (goto_below v.counts) (λ to f. absurd (subst is_just (sym f) tt)) (gotos_of s v)
+        gotos = λ state left. find_all (λ (g : GotoRecord). is_pair state left g.state g.nonterminal) (λ (g : GotoRecord). Some g.target) None (λ (g : GotoRecord). goto_right v.counts g ≡ true)
+            (λ (m : Option ℕ). (to : ℕ) → m ≡ Some to → to < v.counts.states) (goto_below v.counts) (λ to f. absurd (subst is_just (sym f) tt)) (gotos_of s v)
             (field_right_lem (goto_format s v.counts) v.gotos.end 0 v.gotos.at both_fields.1);
         shifted = λ state class. find_all (λ (a : ActionRecord). is_pair state class a.state a.class) (λ (a : ActionRecord). a) no_record (λ (a : ActionRecord). action_right v.counts a ≡ true)
-            (λ (a : ActionRecord). (to : ℕ) → a.shift ≡ just to → to < v.counts.states) (action_below v.counts) (λ to f. absurd (subst is_just (sym f) tt)) (actions_of s v)
+            (λ (a : ActionRecord). (to : ℕ) → a.shift ≡ Some to → to < v.counts.states) (action_below v.counts) (λ to f. absurd (subst is_just (sym f) tt)) (actions_of s v)
             (field_right_lem (action_format s v.counts) v.actions.end 0 v.actions.at both_fields.0);
       }
 
@@ -113,9 +113,9 @@ module _ (s : List ℕ) (ok : table_ok s ≡ true) where
           (both_parts (content_right s (view_of s)) (shifts (action_of (table_of s) 0 start_class).shift)
           (both_parts (frame_right s (view_of s)) (both (content_right s (view_of s)) (shifts (action_of (table_of s) 0 start_class).shift)) ok).1).1
 
-      at : (sh : Maybe ℕ) → (action_of (table_of s) 0 start_class).shift ≡ sh → shifts (action_of (table_of s) 0 start_class).shift ≡ true → target (action_of (table_of s) 0 start_class).shift < (table_of s).counts.states
-      at nothing e f = absurd (subst (λ (m : Maybe ℕ). shifts m ≡ true → ⊥) (sym e) (λ g. subst IsTrue (sym g) tt) f)
-      at (just to) e f = subst (λ (m : Maybe ℕ). target m < (table_of s).counts.states) (sym e) (targets_below.shifted 0 start_class to e)
+      at : (sh : Option ℕ) → (action_of (table_of s) 0 start_class).shift ≡ sh → shifts (action_of (table_of s) 0 start_class).shift ≡ true → target (action_of (table_of s) 0 start_class).shift < (table_of s).counts.states
+      at None e f = absurd (subst (λ (m : Option ℕ). shifts m ≡ true → ⊥) (sym e) (λ g. subst IsTrue (sym g) tt) f)
+      at (Some to) e f = subst (λ (m : Option ℕ). target m < (table_of s).counts.states) (sym e) (targets_below.shifted 0 start_class to e)
 
   -- A start begins with the table's states, and a feed keeps to them.
   pub start_kept : (born : ℕ) → StatesBelow (table_of s).counts.states (start_reading (table_of s) born)

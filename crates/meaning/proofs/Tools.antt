@@ -7,10 +7,6 @@ use native.Mathlib.Omega.{arith}
 use Rattle.meaning.specs.Basics.{is_nil, AllOf}
 
 module _ {A B : Type 0} (f : A → B) where
-  pub map_append : (l m : List A) → map f (l ++ m) ≡ map f l ++ map f m
-  map_append [] m = refl
-  map_append (a ∷ l) m = ap {B = List B} (λ k. f a ∷ k) (map_append l m)
-
   pub map_reverse : (l acc : List A) → map f (reverse_aux l acc) ≡ reverse_aux (map f l) (map f acc)
   map_reverse [] acc = refl
   map_reverse (a ∷ l) acc = map_reverse l (a ∷ acc)

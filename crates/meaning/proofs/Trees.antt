@@ -6,8 +6,8 @@ use mathlib.Core.Bool.{Bool, true, false}
 use lib.ListN.{length, get_or, drop}
 use lib.Dec.{leb, ltb, eqb, lt→ltb}
 use native.Mathlib.Omega.{arith}
-use Rattle.meaning.specs.Basics.{both, either, Maybe, nothing, just}
-use Rattle.std.specs.Prelude.{if◌then◌else◌}
+use Rattle.meaning.specs.Basics.{both, either}
+use Rattle.std.specs.Prelude.{if◌then◌else◌, Option, None, Some}
 use Rattle.meaning.specs.TableFile.{Table, ActionRecord, goto_of, rule_of}
 use Rattle.meaning.specs.TableRight.{shifts}
 use Rattle.meaning.specs.Chains.{record_at, landing}
@@ -18,16 +18,16 @@ use Rattle.meaning.specs.declared.Refusal.TheVariants.{ReachesStart, TooHigh, Ch
 use Rattle.meaning.proofs.Booleans.{IsTrue, is_true, either_false}
 use Rattle.meaning.proofs.Planned.{WalkBounded, walk_bounded}
 
-abbrev pub tree_step : Maybe ℕ → ℕ → (ℕ → Walk) → Walk → Walk
-tree_step nothing k deeper beside = beside
-tree_step (just to) k deeper beside = reduce k to (deeper to) beside
+abbrev pub tree_step : Option ℕ → ℕ → (ℕ → Walk) → Walk → Walk
+tree_step None k deeper beside = beside
+tree_step (Some to) k deeper beside = reduce k to (deeper to) beside
 
-abbrev pub tree_by : Table → (List ℕ → Walk) → Maybe ℕ → List ℕ → List ℕ → Walk
+abbrev pub tree_by : Table → (List ℕ → Walk) → Option ℕ → List ℕ → List ℕ → Walk
 tree_by t deeper sh st [] = shift sh
 tree_by t deeper sh st (k ∷ ks) = tree_step (landing t (rule_of t k) st) k (λ to. deeper (to ∷ drop (rule_of t k).len st)) (tree_by t deeper sh st ks)
 
 abbrev pub tree_from : (left : ℕ) → Table → (cls : ℕ) → List ℕ → Walk
-tree_from zero t cls st = tree_by t (λ s. shift nothing) (record_at t cls st).shift st (record_at t cls st).rules
+tree_from zero t cls st = tree_by t (λ s. shift None) (record_at t cls st).shift st (record_at t cls st).rules
 tree_from (suc left) t cls st = tree_by t (λ s. tree_from left t cls s) (record_at t cls st).shift st (record_at t cls st).rules
 
 -- A reading is planned exactly if the walk has a chain.
@@ -37,14 +37,14 @@ either_true false b {c} {d} f g e = let h = g e in omega arith
 
 pub ends_chain : (w : Walk) → ends w ≡ true → 1 ≤ chains w
 unfolding ends chains
-ends_chain (shift nothing) e = absurd (subst IsTrue (sym e) tt)
-ends_chain (shift (just to)) e = omega arith
+ends_chain (shift None) e = absurd (subst IsTrue (sym e) tt)
+ends_chain (shift (Some to)) e = omega arith
 ends_chain (reduce k to below beside) e = either_true (ends below) (ends beside) (ends_chain below) (ends_chain beside) e
 
 pub no_chain : (w : Walk) → ends w ≡ false → chains w ≡ 0
 unfolding ends chains
-no_chain (shift nothing) e = refl
-no_chain (shift (just to)) e = absurd (subst IsTrue e tt)
+no_chain (shift None) e = refl
+no_chain (shift (Some to)) e = absurd (subst IsTrue e tt)
 no_chain (reduce k to below beside) e =
     let h = either_false (ends below) (ends beside) e in
     let a = no_chain below h.0 in
@@ -60,7 +60,7 @@ pub refused_not : {C : Type 0} {k : Refusal} {w : Walk} {n c : ℕ} → refused 
 refused_not e = absurd (subst is_walked (sym e) tt)
 
 abbrev pub walk_of : Walked → Walk
-walk_of (refused k) = shift nothing
+walk_of (refused k) = shift None
 walk_of (walked w n c) = w
 
 abbrev pub count_of : Walked → ℕ
@@ -79,9 +79,9 @@ pub if_yes : (b : Bool) (k : Refusal) (x : Walked) {w : Walk} {n c : ℕ} → (i
 if_yes true k x e = (refl, e)
 if_yes false k x e = refused_not e
 
-goto_yes : (m : Maybe ℕ) (f : ℕ → Walked) {w : Walk} {n c : ℕ} → or_no_goto m f ≡ walked w n c → (to : ℕ) × (m ≡ just to) × (f to ≡ walked w n c)
-goto_yes nothing f e = refused_not e
-goto_yes (just to) f e = (to, refl, e)
+goto_yes : (m : Option ℕ) (f : ℕ → Walked) {w : Walk} {n c : ℕ} → or_no_goto m f ≡ walked w n c → (to : ℕ) × (m ≡ Some to) × (f to ≡ walked w n c)
+goto_yes None f e = refused_not e
+goto_yes (Some to) f e = (to, refl, e)
 
 pub record Walks (x : Walked) : Type 0 where
   pub w : Walk
@@ -107,14 +107,14 @@ pub record Is (tree : Walk) (room n c : ℕ) (w : Walk) (n' c' : ℕ) : Type 0 w
   pub fits : c ≤ room → c' ≤ room
   pub few : n ≤ 1024 → n' ≤ 1024
 
-end_is : (room : ℕ) (sh : Maybe ℕ) (n c : ℕ) {w : Walk} {n' c' : ℕ} → end_chain room sh n c ≡ walked w n' c' → Counted (shift sh) n c w n' c'
+end_is : (room : ℕ) (sh : Option ℕ) (n c : ℕ) {w : Walk} {n' c' : ℕ} → end_chain room sh n c ≡ walked w n' c' → Counted (shift sh) n c w n' c'
 unfolding end_chain size chains
-end_is room nothing n c e =
+end_is room None n c e =
     let a : n ≡ _ = ap count_of e in
     let b : c ≡ _ = ap chains_of e in
     record { tree_is = sym (ap walk_of e); count_is = omega arith; chains_is = omega arith }
-end_is room (just t) n c e =
-    let d = (if_yes (has_room room c) TooManyReadings (walked (shift (just t)) n (c + 1)) e).1 in
+end_is room (Some t) n c e =
+    let d = (if_yes (has_room room c) TooManyReadings (walked (shift (Some t)) n (c + 1)) e).1 in
     let a : n ≡ _ = ap count_of d in
     let b : c + 1 ≡ _ = ap chains_of d in
     record { tree_is = sym (ap walk_of d); count_is = omega arith; chains_is = omega arith }
@@ -122,7 +122,7 @@ end_is room (just t) n c e =
 -- each rule of the list leads somewhere, to a stack of which P holds
 abbrev pub GrownBy : Table → (List ℕ → Type 0) → List ℕ → List ℕ → Type 0
 GrownBy t P st [] = Unit {0}
-GrownBy t P st (k ∷ ks) = (to : ℕ) × (landing t (rule_of t k) st ≡ just to) × P (to ∷ drop (rule_of t k).len st) × GrownBy t P st ks
+GrownBy t P st (k ∷ ks) = (to : ℕ) × (landing t (rule_of t k) st ≡ Some to) × P (to ∷ drop (rule_of t k).len st) × GrownBy t P st ks
 
 -- no reduction from here is one too many, reaches the start entry or lacks a goto
 abbrev pub Grown : (left : ℕ) → Table → (cls : ℕ) → List ℕ → Type 0
@@ -133,18 +133,18 @@ abbrev Fits : (List ℕ → Walk) → (List ℕ → Type 0) → (List ℕ → �
 Fits deeper P go = (st : List ℕ) (n c : ℕ) (w : Walk) (n' c' : ℕ) → go st n c ≡ walked w n' c' → Counted (deeper st) n c w n' c' × P st
 
 -- what is known of a first rule's reduction in a walk that was not refused
-pub record Reduces (t : Table) (room left : ℕ) (go : List ℕ → ℕ → ℕ → Walked) (sh : Maybe ℕ) (st : List ℕ) (k : ℕ) (ks : List ℕ) (n c : ℕ) (w : Walk) (n' c' : ℕ) : Type 0 where
+pub record Reduces (t : Table) (room left : ℕ) (go : List ℕ → ℕ → ℕ → Walked) (sh : Option ℕ) (st : List ℕ) (k : ℕ) (ks : List ℕ) (n c : ℕ) (w : Walk) (n' c' : ℕ) : Type 0 where
   pub to : ℕ
   pub steps_fit : walk_full n ≡ false
   pub chain_fits : eqb left 0 ≡ false
   pub pops : leb (length st) (rule_of t k).len ≡ false
-  pub leads : goto_of t (get_or (drop (rule_of t k).len st) 0 0) (rule_of t k).left ≡ just to
+  pub leads : goto_of t (get_or (drop (rule_of t k).len st) 0 0) (rule_of t k).left ≡ Some to
   pub not_high : ltb 64 (length (drop (rule_of t k).len st) + 1) ≡ false
   pub below : Walks (go (to ∷ drop (rule_of t k).len st) (n + 1) c)
   pub beside : Walks (walk_rules t room left go sh st ks below.n below.c)
   pub all : walked (reduce k to below.w beside.w) beside.n beside.c ≡ walked w n' c'
 
-pub reduces : (t : Table) (room left : ℕ) (go : List ℕ → ℕ → ℕ → Walked) (sh : Maybe ℕ) (st : List ℕ) (k : ℕ) (ks : List ℕ) (n c : ℕ) (w : Walk) (n' c' : ℕ)
+pub reduces : (t : Table) (room left : ℕ) (go : List ℕ → ℕ → ℕ → Walked) (sh : Option ℕ) (st : List ℕ) (k : ℕ) (ks : List ℕ) (n c : ℕ) (w : Walk) (n' c' : ℕ)
     → walk_rules t room left go sh st (k ∷ ks) n c ≡ walked w n' c' → Reduces t room left go sh st k ks n c w n' c'
 unfolding walk_rules reduction
 reduces t room left go sh st k ks n c w n' c' e =
@@ -177,7 +177,7 @@ reduces t room left go sh st k ks n c w n' c' e =
     e3 : (leb (length st) q.len ≡ false) × (low ≡ walked w n' c')
     e3 = if_not (leb (length st) q.len) ReachesStart low e2.1
 
-    e4 : (to : ℕ) × (goto_of t (get_or rest 0 0) q.left ≡ just to) × (high to ≡ walked w n' c')
+    e4 : (to : ℕ) × (goto_of t (get_or rest 0 0) q.left ≡ Some to) × (high to ≡ walked w n' c')
     e4 = goto_yes (goto_of t (get_or rest 0 0) q.left) high e3.1
 
     to : ℕ
@@ -196,7 +196,7 @@ reduces t room left go sh st k ks n c w n' c' e =
     e7 = then_yes (walk_rules t room left go sh st ks z.n z.c) (λ v' m' d'. walked (reduce k to z.w v') m' d') e6.1
 
 rules_are : (t : Table) (room left : ℕ) (deeper : List ℕ → Walk) (P : List ℕ → Type 0) (go : List ℕ → ℕ → ℕ → Walked) → Fits deeper P go
-    → (sh : Maybe ℕ) (st ks : List ℕ) (n c : ℕ) (w : Walk) (n' c' : ℕ) → walk_rules t room left go sh st ks n c ≡ walked w n' c' → Counted (tree_by t deeper sh st ks) n c w n' c' × GrownBy t P st ks
+    → (sh : Option ℕ) (st ks : List ℕ) (n c : ℕ) (w : Walk) (n' c' : ℕ) → walk_rules t room left go sh st ks n c ≡ walked w n' c' → Counted (tree_by t deeper sh st ks) n c w n' c' × GrownBy t P st ks
 unfolding walk_rules landing size chains
 rules_are t room left deeper P go fits sh st [] n c w n' c' e = (end_is room sh n c e, tt)
 rules_are t room left deeper P go fits sh st (k ∷ ks) n c w n' c' e =
@@ -236,11 +236,11 @@ rules_are t room left deeper P go fits sh st (k ∷ ks) n c w n' c' e =
     y : Walks (walk_rules t room left go sh st ks z.n z.c)
     y = v.beside
 
-    land : landing t q st ≡ just v.to
-    land = ap (λ (b : Bool). if b then nothing else goto_of t (get_or rest 0 0) q.left) v.pops ∙ v.leads
+    land : landing t q st ≡ Some v.to
+    land = ap (λ (b : Bool). if b then None else goto_of t (get_or rest 0 0) q.left) v.pops ∙ v.leads
 
     tree_step_lem : tree_step (landing t q st) k (λ to. deeper (to ∷ rest)) others ≡ reduce k v.to (deeper (v.to ∷ rest)) others
-    tree_step_lem = ap (λ (m : Maybe ℕ). tree_step m k (λ to. deeper (to ∷ rest)) others) land
+    tree_step_lem = ap (λ (m : Option ℕ). tree_step m k (λ to. deeper (to ∷ rest)) others) land
 
 state_is : (t : Table) (room left : ℕ) (deeper : List ℕ → Walk) (P : List ℕ → Type 0) (go : List ℕ → ℕ → ℕ → Walked) → Fits deeper P go
     → (a : ActionRecord) (st : List ℕ) (n c : ℕ) (w : Walk) (n' c' : ℕ) → walk_state t room left go a st n c ≡ walked w n' c' → Counted (tree_by t deeper a.shift st a.rules) n c w n' c' × GrownBy t P st a.rules
@@ -253,7 +253,7 @@ walk_both : (left : ℕ) (t : Table) (room cls : ℕ) (st : List ℕ) (n c : ℕ
     → Counted (tree_from left t cls st) n c w n' c' × Grown left t cls st
 unfolding walk_state walk_from
 walk_both zero t room cls st n c w n' c' e =
-    state_is t room 0 (λ s. shift nothing) (λ s. ⊥) (λ st' m d. refused ChainTooLong) (λ s m d v m' d' f. refused_not f) (record_at t cls st) st n c w n' c' e
+    state_is t room 0 (λ s. shift None) (λ s. ⊥) (λ st' m d. refused ChainTooLong) (λ s m d v m' d' f. refused_not f) (record_at t cls st) st n c w n' c' e
 walk_both (suc left) t room cls st n c w n' c' e =
     state_is t room (suc left) (λ s. tree_from left t cls s) (λ s. Grown left t cls s) (λ st' m d. walk_from left t room cls st' m d)
     (λ s m d v m' d' f. walk_both left t room cls s m d v m' d' f) (record_at t cls st) st n c w n' c' e
@@ -272,22 +272,22 @@ walk_grown left t room cls st n c w n' c' e = (walk_both left t room cls st n c 
 abbrev pub Again : ℕ → (List ℕ → ℕ → ℕ → Walked) → Type 0
 Again room go = (st : List ℕ) (n c : ℕ) (w : Walk) (n' c' : ℕ) → go st n c ≡ walked w n' c' → (d : ℕ) → d + chains w ≤ room → go st n d ≡ walked w n' (d + chains w)
 
-end_again : (room : ℕ) (sh : Maybe ℕ) (n c : ℕ) (w : Walk) (n' c' : ℕ) → end_chain room sh n c ≡ walked w n' c' → (d : ℕ) → d + chains w ≤ room → end_chain room sh n d ≡ walked w n' (d + chains w)
+end_again : (room : ℕ) (sh : Option ℕ) (n c : ℕ) (w : Walk) (n' c' : ℕ) → end_chain room sh n c ≡ walked w n' c' → (d : ℕ) → d + chains w ≤ room → end_chain room sh n d ≡ walked w n' (d + chains w)
 unfolding chains end_chain
-end_again room nothing n c w n' c' e d h =
+end_again room None n c w n' c' e d h =
     let f : 0 ≡ chains w = ap chains (ap walk_of e) in
     let g : d ≡ d + chains w = omega arith in
     λ i. walked (ap walk_of e i) (ap count_of e i) (g i)
-end_again room (just t) n c w n' c' e d h =
-    let e' = (if_yes (has_room room c) TooManyReadings (walked (shift (just t)) n (c + 1)) e).1 in
+end_again room (Some t) n c w n' c' e d h =
+    let e' = (if_yes (has_room room c) TooManyReadings (walked (shift (Some t)) n (c + 1)) e).1 in
     let f : 1 ≡ chains w = ap chains (ap walk_of e') in
     let g : d + 1 ≡ d + chains w = omega arith in
     let l : d < room = omega arith in
-    ap (λ (b : Bool). if b then walked (shift (just t)) n (d + 1) else refused TooManyReadings) (is_true (has_room room d) (lt→ltb d room l))
+    ap (λ (b : Bool). if b then walked (shift (Some t)) n (d + 1) else refused TooManyReadings) (is_true (has_room room d) (lt→ltb d room l))
     ∙ (λ i. walked (ap walk_of e' i) (ap count_of e' i) (g i))
 
 rules_again : (t : Table) (room left : ℕ) (go : List ℕ → ℕ → ℕ → Walked) → Again room go
-    → (sh : Maybe ℕ) (st ks : List ℕ) (n c : ℕ) (w : Walk) (n' c' : ℕ) → walk_rules t room left go sh st ks n c ≡ walked w n' c'
+    → (sh : Option ℕ) (st ks : List ℕ) (n c : ℕ) (w : Walk) (n' c' : ℕ) → walk_rules t room left go sh st ks n c ≡ walked w n' c'
     → (d : ℕ) → d + chains w ≤ room → walk_rules t room left go sh st ks n d ≡ walked w n' (d + chains w)
 unfolding walk_rules reduction chains
 rules_again t room left go again sh st [] n c w n' c' e d h = end_again room sh n c w n' c' e d h
@@ -297,7 +297,7 @@ rules_again t room left go again sh st (k ∷ ks) n c w n' c' e d h =
     ap (λ (b : Bool). if b then refused WalkTooLong else if eqb left 0 then refused ChainTooLong else if leb (length st) q.len then refused ReachesStart else low) v.steps_fit
     ∙ ap (λ (b : Bool). if b then refused ChainTooLong else if leb (length st) q.len then refused ReachesStart else low) v.chain_fits
     ∙ ap (λ (b : Bool). if b then refused ReachesStart else low) v.pops
-    ∙ ap (λ (m : Maybe ℕ). or_no_goto m high) v.leads
+    ∙ ap (λ (m : Option ℕ). or_no_goto m high) v.leads
     ∙ ap (λ (b : Bool). if b then refused TooHigh else last v.to) v.not_high
     ∙ ap (λ (x : Walked). and_then x (grown v.to)) (again (v.to ∷ rest) (n + 1) c z.w z.n z.c z.is d (omega arith))
     ∙ ap (λ (x : Walked). and_then x (λ v' m' d'. walked (reduce k v.to z.w v') m' d'))

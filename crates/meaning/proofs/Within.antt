@@ -5,8 +5,8 @@ use mathlib.Core.List.{List, [], ◌∷◌}
 use mathlib.Core.Bool.{Bool, true, false}
 use lib.ListN.{length, drop, length-append, length-drop}
 use native.Mathlib.Omega.{arith}
-use Rattle.meaning.specs.Basics.{Maybe, nothing, just, AllOf}
-use Rattle.std.specs.Prelude.{if◌then◌else◌}
+use Rattle.meaning.specs.Basics.{AllOf}
+use Rattle.std.specs.Prelude.{if◌then◌else◌, Option, None, Some}
 use Rattle.meaning.specs.TableFile.{Table, rule_of}
 use Rattle.meaning.specs.Readings.{Entry, Reading, states}
 use Rattle.meaning.specs.Chains.{record_at, landing}
@@ -29,24 +29,24 @@ births_step true l nb cb nd cd f g h = let k = f refl in omega arith
 births_step false l nb cb nd cd f g h = omega arith
 
 rules_births : (t : Table) (l : ℕ) (deeper : List ℕ → Walk) → ((s : List ℕ) → births (deeper s) ≤ l * chains (deeper s))
-    → (sh : Maybe ℕ) (st ks : List ℕ) → births (tree_by t deeper sh st ks) ≤ suc l * chains (tree_by t deeper sh st ks)
+    → (sh : Option ℕ) (st ks : List ℕ) → births (tree_by t deeper sh st ks) ≤ suc l * chains (tree_by t deeper sh st ks)
 unfolding chains
-rules_births t l deeper h nothing st [] = omega arith
-rules_births t l deeper h (just to) st [] = omega arith
+rules_births t l deeper h None st [] = omega arith
+rules_births t l deeper h (Some to) st [] = omega arith
 rules_births t l deeper h sh st (k ∷ ks) = step (landing t (rule_of t k) st) (rules_births t l deeper h sh st ks)
   where
-    step : (m : Maybe ℕ) → births (tree_by t deeper sh st ks) ≤ suc l * chains (tree_by t deeper sh st ks)
+    step : (m : Option ℕ) → births (tree_by t deeper sh st ks) ≤ suc l * chains (tree_by t deeper sh st ks)
         → births (tree_step m k (λ to. deeper (to ∷ drop (rule_of t k).len st)) (tree_by t deeper sh st ks))
         ≤ suc l * chains (tree_step m k (λ to. deeper (to ∷ drop (rule_of t k).len st)) (tree_by t deeper sh st ks))
-    step nothing g = g
-    step (just to) g =
+    step None g = g
+    step (Some to) g =
         let below = deeper (to ∷ drop (rule_of t k).len st) in
         let beside = tree_by t deeper sh st ks in
         births_step (ends below) l (births below) (chains below) (births beside) (chains beside) (ends_chain below) (h (to ∷ drop (rule_of t k).len st)) g
 
 tree_births : (left : ℕ) (t : Table) (class : ℕ) (st : List ℕ) → births (tree_from left t class st) ≤ suc left * chains (tree_from left t class st)
 unfolding chains
-tree_births zero t class st = rules_births t 0 (λ s. shift nothing) (λ s. omega arith) (record_at t class st).shift st (record_at t class st).rules
+tree_births zero t class st = rules_births t 0 (λ s. shift None) (λ s. omega arith) (record_at t class st).shift st (record_at t class st).rules
 tree_births (suc left) t class st = rules_births t (suc left) (λ s. tree_from left t class s) (λ s. tree_births left t class s) (record_at t class st).shift st (record_at t class st).rules
 
 -- what was applied from birth n on: at most `few` readings and errors together, at most `more` births, and every reading stands
@@ -74,8 +74,8 @@ wider n f b f' b' o g h w =
 
 apply_within : (t : Table) (x : Term) (w : Walk) (r : Reading) (n : ℕ) → Low t w (length r.stack) → Within n (chains w) (births w) (apply t x w r n)
 unfolding apply chains shifted reduced
-apply_within t x (shift nothing) r n low = nothing_within n 0 0
-apply_within t x (shift (just to)) r n low = record { both = omega arith; grows = omega arith; births_are = omega arith; standing = ((omega arith, omega arith), tt) }
+apply_within t x (shift None) r n low = nothing_within n 0 0
+apply_within t x (shift (Some to)) r n low = record { both = omega arith; grows = omega arith; births_are = omega arith; standing = ((omega arith, omega arith), tt) }
 apply_within t x (reduce k to below beside) r n low =
     joined_within n (chains below) (chains beside) (if ends below then 1 + births below else 0) (births beside) (part (ends below) (act_on (rule_of t k) r.stack))
     (apply t x beside r (part (ends below) (act_on (rule_of t k) r.stack)).next)
@@ -85,21 +85,21 @@ apply_within t x (reduce k to below beside) r n low =
     red : ℕ → Reading
     red v = reduced (rule_of t k) to v r n
 
-    part : Bool → Maybe ℕ → Applied
+    part : Bool → Option ℕ → Applied
     part b m = if b then if_acts m (λ v. apply t x below (red v) (n + 1)) (one_error (refused_action t k r) n) else nothing_applied n
 
     low_below : (v : ℕ) → Low t below (length (red v).stack)
     low_below v = subst (λ (h : ℕ). Low t below (suc h)) (sym (length-drop (rule_of t k).len r.stack)) low.0
 
-    within : (b : Bool) (m : Maybe ℕ) → (b ≡ true → 1 ≤ chains below) → ((v : ℕ) → Within (n + 1) (chains below) (births below) (apply t x below (red v) (n + 1)))
+    within : (b : Bool) (m : Option ℕ) → (b ≡ true → 1 ≤ chains below) → ((v : ℕ) → Within (n + 1) (chains below) (births below) (apply t x below (red v) (n + 1)))
         → Within n (chains below) (if b then 1 + births below else 0) (part b m)
-    within true nothing e h = let c = e refl in record { both = omega arith; grows = omega arith; births_are = omega arith; standing = tt }
-    within true (just v) e h =
+    within true None e h = let c = e refl in record { both = omega arith; grows = omega arith; births_are = omega arith; standing = tt }
+    within true (Some v) e h =
         let g = h v in
         let g1 = g.both in let g2 = g.grows in let g3 = g.births_are in
         record { both = g1; grows = omega arith; births_are = omega arith; standing = g.standing }
-    within false nothing e h = nothing_within n (chains below) 0
-    within false (just v) e h = nothing_within n (chains below) 0
+    within false None e h = nothing_within n (chains below) 0
+    within false (Some v) e h = nothing_within n (chains below) 0
 
 length_states : (s : List Entry) → length (states s) ≡ length s
 length_states [] = refl

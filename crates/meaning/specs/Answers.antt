@@ -1,18 +1,26 @@
 -- The numbered answers: one definition gives each case of an answer its number and its values.
-use Rattle.std.specs.Prelude.{ℕ, true, false}
+use Rattle.std.specs.Prelude.{ℕ, Bool, false, Result, Ok, Err, if◌then◌else◌}
 use Rattle.meaning.specs.declared.Refusal.{Refusal}
 use Rattle.meaning.specs.declared.Refusal.TheVariants.{WrongLength, WrongTable, WrongState, Consumed, WrongArgument, ReachesStart, NoGoto, TooHigh, ChainTooLong, WalkTooLong, TooManyReadings}
-use Rattle.meaning.specs.declared.StartAnswer.{StartAnswer}
-use Rattle.meaning.specs.declared.StartAnswer.TheVariants as start
-use Rattle.meaning.specs.declared.FeedAnswer.{FeedAnswer}
-use Rattle.meaning.specs.declared.FeedAnswer.TheVariants as fed
+use Rattle.meaning.specs.declared.FeedOutcome.{FeedOutcome}
+use Rattle.meaning.specs.declared.StackOutcome.{StackOutcome}
+use Rattle.meaning.specs.declared.StartNumbers.{StartNumbers}
 use Rattle.meaning.specs.declared.FeedNumbers.{FeedNumbers}
-use Rattle.meaning.specs.declared.QuestionAnswer.{QuestionAnswer}
-use Rattle.meaning.specs.declared.QuestionAnswer.TheVariants as asked
 use Rattle.meaning.specs.declared.QuestionNumbers.{QuestionNumbers}
-use Rattle.meaning.specs.declared.StackAnswer.{StackAnswer}
-use Rattle.meaning.specs.declared.StackAnswer.TheVariants as stack
 use Rattle.meaning.specs.declared.StackNumbers.{StackNumbers}
+
+-- What the calls give: an answer with its values, or a refusal.
+abbrev pub StartAnswer : Type 0
+StartAnswer = Result (Unit {0}) Refusal
+
+abbrev pub FeedAnswer : Type 0
+FeedAnswer = Result FeedOutcome Refusal
+
+abbrev pub QuestionAnswer : Type 0
+QuestionAnswer = Result Bool Refusal
+
+abbrev pub StackAnswer : Type 0
+StackAnswer = Result StackOutcome Refusal
 
 -- Done, whatever the call.
 abbrev pub done : ℕ
@@ -48,22 +56,23 @@ abbrev pub not_taken : ℕ
 not_taken = 12
 
 abbrev pub start_number : StartAnswer → ℕ
-start_number start.Done = done
-start_number (start.Refused k) = number k
+start_number (Ok _) = done
+start_number (Err k) = number k
+
+abbrev pub start_numbers : StartAnswer → StartNumbers
+start_numbers a = record { answer = start_number a }
 
 -- 1 to 11 report zero for both counts
 abbrev pub feed_numbers : FeedAnswer → FeedNumbers
-feed_numbers (fed.Done errors walked) = record { answer = done; errors = errors; walked = walked }
-feed_numbers (fed.NotTaken errors walked) = record { answer = not_taken; errors = errors; walked = walked }
-feed_numbers (fed.Refused k) = record { answer = number k; errors = 0; walked = 0 }
+feed_numbers (Ok f) = record { answer = (if f.taken then done else not_taken); errors = f.errors; walked = f.walked }
+feed_numbers (Err k) = record { answer = number k; errors = 0; walked = 0 }
 
 -- a refusal comes with no
 abbrev pub question_numbers : QuestionAnswer → QuestionNumbers
-question_numbers asked.Yes = record { answer = done; yes = true }
-question_numbers asked.No = record { answer = done; yes = false }
-question_numbers (asked.Refused k) = record { answer = number k; yes = false }
+question_numbers (Ok b) = record { answer = done; yes = b }
+question_numbers (Err k) = record { answer = number k; yes = false }
 
 -- a refusal gives height and mark 0
 abbrev pub stack_numbers : StackAnswer → StackNumbers
-stack_numbers (stack.Read height mark) = record { answer = done; height = height; mark = mark }
-stack_numbers (stack.Refused k) = record { answer = number k; height = 0; mark = 0 }
+stack_numbers (Ok s) = record { answer = done; height = s.height; mark = s.mark }
+stack_numbers (Err k) = record { answer = number k; height = 0; mark = 0 }

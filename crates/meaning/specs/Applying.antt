@@ -1,6 +1,5 @@
 -- Applying: the same chains in the same order, with actions. Spans, marks, births and error records.
-use Rattle.std.specs.Prelude.{ℕ, zero, suc, ◌+◌, ◌-◌, ◌%◌, List, [], ◌∷◌, ◌++◌, get_or, drop}
-use Rattle.meaning.specs.Basics.{Maybe, nothing, just}
+use Rattle.std.specs.Prelude.{ℕ, zero, suc, ◌+◌, ◌-◌, ◌%◌, List, [], ◌∷◌, ◌++◌, get_or, drop, Option, None, Some}
 use Rattle.std.specs.Prelude.{if◌then◌else◌}
 use Rattle.meaning.specs.TableFile.{Table, state_no, rule_of}
 use Rattle.meaning.specs.Kinds.{act}
@@ -14,7 +13,7 @@ use Rattle.meaning.specs.declared.ErrorRecord.{ErrorRecord}
 abbrev pub item : List Entry → (n k : ℕ) → ℕ
 item s n k = (get_or s (n - k) no_entry).value
 
-unfoldable pub act_on : Rule → List Entry → Maybe ℕ
+unfoldable pub act_on : Rule → List Entry → Option ℕ
 act_on q s = act q (item s q.len 1) (item s q.len q.pick)
 
 -- A span over n popped entries runs from the lowest one's start to the highest one's end; with none it is empty at the end of the top entry.
@@ -64,14 +63,14 @@ joined a b = record { results = a.results ++ b.results; errors = a.errors ++ b.e
 abbrev pub then_applied : Applied → (ℕ → Applied) → Applied
 then_applied a f = joined a (f a.next)
 
-abbrev pub if_acts : Maybe ℕ → (ℕ → Applied) → Applied → Applied
-if_acts nothing f refused = refused
-if_acts (just v) f refused = f v
+abbrev pub if_acts : Option ℕ → (ℕ → Applied) → Applied → Applied
+if_acts None f refused = refused
+if_acts (Some v) f refused = f v
 
 -- A reduction below which no chain ends is not run. One that is shared by several chains runs once; if it refuses, all chains through it end, with one error record.
 unfoldable pub apply : Table → Term → Walk → Reading → (next : ℕ) → Applied
-apply t x (shift nothing) r n = nothing_applied n
-apply t x (shift (just to)) r n = one_result (shifted x to r n) (n + 1)
+apply t x (shift None) r n = nothing_applied n
+apply t x (shift (Some to)) r n = one_result (shifted x to r n) (n + 1)
 apply t x (reduce k to below beside) r n =
     then_applied
     (if ends below

@@ -1,5 +1,5 @@
 -- The small tools that the definitions are written with. Assumes nothing.
-use Rattle.std.specs.Prelude.{ℕ, zero, suc, Bool, true, false, List, [], ◌∷◌, ◌++◌, if◌then◌else◌}
+use Rattle.std.specs.Prelude.{ℕ, zero, suc, Bool, true, false, List, [], ◌∷◌, ◌++◌, if◌then◌else◌, Option, None, Some}
 
 abbrev pub both : Bool → Bool → Bool
 both true b = b
@@ -9,18 +9,14 @@ abbrev pub either : Bool → Bool → Bool
 either true b = true
 either false b = b
 
-pub data Maybe (A : Type 0) : Type 0 where
-  nothing : Maybe A
-  just : A → Maybe A
-
-abbrev pub bind : {A B : Type 0} → Maybe A → (A → Maybe B) → Maybe B
-bind nothing f = nothing
-bind (just a) f = f a
+abbrev pub bind : {A B : Type 0} → Option A → (A → Option B) → Option B
+bind None f = None
+bind (Some a) f = f a
 
 -- what f gives of it, or nothing at all
-abbrev pub listed : {A B : Type 0} → Maybe A → (A → List B) → List B
-listed nothing f = []
-listed (just a) f = f a
+abbrev pub listed : {A B : Type 0} → Option A → (A → List B) → List B
+listed None f = []
+listed (Some a) f = f a
 
 abbrev pub is_nil {ℓ} : {A : Type ℓ} → List A → Bool
 is_nil [] = true
@@ -41,9 +37,9 @@ find fits out none [] = none
 find fits out none (a ∷ more) = if fits a then out a else find fits out none more
 
 -- the element at place i, counted from 0
-abbrev pub nth : List ℕ → ℕ → Maybe ℕ
-nth [] i = nothing
-nth (a ∷ more) zero = just a
+abbrev pub nth : List ℕ → ℕ → Option ℕ
+nth [] i = None
+nth (a ∷ more) zero = Some a
 nth (a ∷ more) (suc i) = nth more i
 
 -- what f gives of each, one after the other
@@ -52,10 +48,10 @@ flat f [] = []
 flat f (a ∷ more) = f a ++ flat f more
 
 -- what there is of f's values, one after the other
-abbrev pub cons_maybe : {A : Type 0} → Maybe A → List A → List A
-cons_maybe nothing more = more
-cons_maybe (just a) more = a ∷ more
+abbrev pub cons_maybe : {A : Type 0} → Option A → List A → List A
+cons_maybe None more = more
+cons_maybe (Some a) more = a ∷ more
 
-abbrev pub each : {A B : Type 0} → (A → Maybe B) → List A → List B
+abbrev pub each : {A B : Type 0} → (A → Option B) → List A → List B
 each f [] = []
 each f (a ∷ more) = cons_maybe (f a) (each f more)

@@ -1,9 +1,9 @@
 -- The calls, on all inputs: checks 1, 2, 3, 4, 5 in this order, then 6 to 11 as planning meets them.
--- Two things are the buffers' business and come in as arguments: whether all lengths are right, and which readings a state buffer holds, `nothing` if it breaks the layout rules or names a state that the table lacks.
-use Rattle.std.specs.Prelude.{ℕ, Bool, not, List, [], ◌∷◌, ◌++◌, map, leb, ltb, length, get_or, drop}
-use Rattle.meaning.specs.Basics.{either, Maybe, nothing, just, is_nil}
+-- Two things are the buffers' business and come in as arguments: whether all lengths are right, and which readings a state buffer holds, `None` if it breaks the layout rules or names a state that the table lacks.
+use Rattle.std.specs.Prelude.{ℕ, Bool, false, not, Ok, Err, List, [], ◌∷◌, ◌++◌, map, leb, ltb, length, get_or, drop, Option, None, Some}
+use Rattle.meaning.specs.Basics.{either, is_nil}
 use Rattle.std.specs.Prelude.{if◌then◌else◌}
-use Rattle.meaning.specs.Answers.{done, number}
+use Rattle.meaning.specs.Answers.{QuestionAnswer, done, number}
 use Rattle.meaning.specs.TableFile.{Table, table_of, first_term}
 use Rattle.meaning.specs.TableRight.{table_ok}
 use Rattle.meaning.specs.Readings.{Reading, start_reading, seen}
@@ -15,18 +15,16 @@ use Rattle.meaning.specs.declared.Term.{Term}
 use Rattle.meaning.specs.declared.ErrorRecord.{ErrorRecord}
 use Rattle.meaning.specs.declared.FeedNumbers.{FeedNumbers}
 use Rattle.meaning.specs.declared.StackNumbers.{StackNumbers}
-use Rattle.meaning.specs.declared.QuestionAnswer.{QuestionAnswer}
-use Rattle.meaning.specs.declared.QuestionAnswer.TheVariants.{No, Refused}
 use Rattle.meaning.specs.declared.Refusal.{Refusal}
 use Rattle.meaning.specs.declared.Refusal.TheVariants.{WrongLength, WrongTable, WrongState, Consumed, WrongArgument}
 
 abbrev pub State : Type 0
-State = Maybe (List Reading)
+State = Option (List Reading)
 
 -- Checks 1, 2 and 3.
 abbrev pub check_state : {A : Type 0} → State → (Refusal → A) → (List Reading → A) → A
-check_state nothing refuse go = refuse WrongState
-check_state (just rs) refuse go = go rs
+check_state None refuse go = refuse WrongState
+check_state (Some rs) refuse go = go rs
 
 abbrev pub checked : {A : Type 0} → (lengths : Bool) → (table : List ℕ) → State → (Refusal → A) → (Table → List Reading → A) → A
 checked lengths table state refuse go =
@@ -48,7 +46,7 @@ unfoldable pub start_call : (lengths : Bool) → (table : List ℕ) → State �
 start_call lengths table state next =
     if not lengths then record { answer = number WrongLength; state = state }
     else if not (table_ok table) then record { answer = number WrongTable; state = state }
-    else record { answer = done; state = just (start_reading (table_of table) next ∷ []) }
+    else record { answer = done; state = Some (start_reading (table_of table) next ∷ []) }
 
 -- Check 5 of a class: below 3 or not in the table,
 unfoldable pub wrong_class : (classes class : ℕ) → Bool
@@ -69,13 +67,13 @@ abbrev pub feed_refused : State → List ErrorRecord → Refusal → FeedCall
 feed_refused state errors k = record { says = record { answer = number k; errors = 0; walked = 0 }; state = state; errors = errors }
 
 abbrev pub feed_ended : List ErrorRecord → Fed → FeedCall
-feed_ended errors f = record { says = record { answer = f.answer; errors = length f.errors; walked = f.walked }; state = just f.readings; errors = written f.errors errors }
+feed_ended errors f = record { says = record { answer = f.answer; errors = length f.errors; walked = f.walked }; state = Some f.readings; errors = written f.errors errors }
 
 -- On a right table and a right state: consumed is 4, before 5 is looked at.
 unfoldable pub feed_right : Table → Term → List Reading → List ErrorRecord → (next : ℕ) → FeedCall
 feed_right t x rs errors next =
-    if is_nil rs then feed_refused (just rs) errors Consumed
-    else if wrong_term t.counts.classes x then feed_refused (just rs) errors WrongArgument
+    if is_nil rs then feed_refused (Some rs) errors Consumed
+    else if wrong_term t.counts.classes x then feed_refused (Some rs) errors WrongArgument
     else feed_ended errors (feed t x rs next)
 
 unfoldable pub feed_call : (lengths : Bool) → (table : List ℕ) → State → Term → List ErrorRecord → (next : ℕ) → FeedCall
@@ -85,18 +83,18 @@ feed_call lengths table state x errors next = checked lengths table state (feed_
 
 unfoldable pub takes_right : Table → (class : ℕ) → List Reading → QuestionAnswer
 takes_right t class rs =
-    if is_nil rs then No
-    else if wrong_class t.counts.classes class then Refused WrongArgument
+    if is_nil rs then Ok false
+    else if wrong_class t.counts.classes class then Err WrongArgument
     else takes t class rs
 
 unfoldable pub takes_call : (lengths : Bool) → (table : List ℕ) → State → (class : ℕ) → QuestionAnswer
-takes_call lengths table state class = checked lengths table state Refused λ t rs. takes_right t class rs
+takes_call lengths table state class = checked lengths table state Err λ t rs. takes_right t class rs
 
 unfoldable pub can_end_call : (lengths : Bool) → (table : List ℕ) → State → QuestionAnswer
-can_end_call lengths table state = checked lengths table state Refused λ t rs. can_end t rs
+can_end_call lengths table state = checked lengths table state Err λ t rs. can_end t rs
 
 unfoldable pub can_recover_call : (lengths : Bool) → (table : List ℕ) → State → QuestionAnswer
-can_recover_call lengths table state = checked lengths table state Refused λ t rs. can_recover t rs
+can_recover_call lengths table state = checked lengths table state Err λ t rs. can_recover t rs
 
 -- Reading a stack out: height, mark and, top first, the entries. A reading number not below the count is 5, consumed 4; a refusal gives height and mark 0 and keeps the list.
 

@@ -1,7 +1,7 @@
 -- The third demand as definitions: what it compares, and what it says of the readings that a feed leaves. Theorems: proofs/Demand3.
-use Rattle.std.specs.Prelude.{ℕ, ◌≤◌, ◌≡◌, false}
+use Rattle.std.specs.Prelude.{ℕ, ◌≤◌, ◌≡◌, false, Option, Some}
 use mathlib.Core.List.{List, [], ◌∷◌, map, reverse, Permᴰ, Memᴰ}
-use Rattle.meaning.specs.Basics.{Maybe, just, bind, each, flat, nth, AllOf}
+use Rattle.meaning.specs.Basics.{bind, each, flat, nth, AllOf}
 use Rattle.meaning.specs.TableFile.{Table, rule_of}
 use Rattle.meaning.specs.Readings.{Reading, states, plain}
 use Rattle.meaning.specs.Chains.{Chain, IsChain, record_at, landing, chains_at}
@@ -27,8 +27,8 @@ pub record Alike (f g : Fed) : Type 0 where
   pub errors : Same f.errors g.errors
 
 -- One chain, run on a reading; identities are left at 0. Nothing if an action refuses, or if it is no chain of this reading.
-unfoldable pub run : Table → Term → Chain → Reading → Maybe Reading
-run t x [] r = bind (record_at t x.class (states r.stack)).shift (λ to. just (shifted x to r 0))
+unfoldable pub run : Table → Term → Chain → Reading → Option Reading
+run t x [] r = bind (record_at t x.class (states r.stack)).shift (λ to. Some (shifted x to r 0))
 run t x (i ∷ chain) r =
     bind (nth (record_at t x.class (states r.stack)).rules i) (λ k.
     bind (landing t (rule_of t k) (states r.stack)) (λ to.

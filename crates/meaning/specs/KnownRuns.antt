@@ -1,6 +1,5 @@
 -- The runs with known outcome, P1 to P10, as one list: each starts a table file, feeds it terms, and says what the last call answers and leaves.
-use Rattle.std.specs.Prelude.{ℕ, ◌+◌, true, List, [], ◌∷◌, map, reverse}
-use Rattle.meaning.specs.Basics.{Maybe, nothing, just}
+use Rattle.std.specs.Prelude.{ℕ, ◌+◌, true, List, [], ◌∷◌, map, reverse, Option, None, Some}
 use Rattle.meaning.specs.Readings.{Reading, seen}
 use Rattle.meaning.specs.TableFile.{state_no}
 use Rattle.meaning.specs.Bounds.{max_births}
@@ -16,10 +15,10 @@ pub record SeenReading : Type 0 where
   pub mark : ℕ
   pub entries : List SeenEntry
 
--- what is seen of a call: its numbers, the readings left (`just []`: consumed; `nothing`: the buffer is no state), and the error list, which was empty
+-- what is seen of a call: its numbers, the readings left (`just []`: consumed; `None`: the buffer is no state), and the error list, which was empty
 pub record Outcome : Type 0 where
   pub says : FeedNumbers
-  pub readings : Maybe (List SeenReading)
+  pub readings : Option (List SeenReading)
   pub errors : List ErrorRecord
 
 pub record Run : Type 0 where
@@ -30,9 +29,9 @@ pub record Run : Type 0 where
 abbrev pub seen_reading : Reading → SeenReading
 seen_reading r = record { mark = r.mark; entries = reverse (map seen r.stack) }
 
-abbrev pub seen_state : State → Maybe (List SeenReading)
-seen_state nothing = nothing
-seen_state (just rs) = just (map seen_reading rs)
+abbrev pub seen_state : State → Option (List SeenReading)
+seen_state None = None
+seen_state (Some rs) = Some (map seen_reading rs)
 
 abbrev pub started : StartCall → Outcome
 started c = record { says = record { answer = c.answer; errors = 0; walked = 0 }; readings = seen_state c.state; errors = [] }
@@ -49,7 +48,7 @@ feed_all table state (x ∷ more) next last =
 
 unfoldable pub outcome : Run → Outcome
 outcome r =
-    let c = start_call true r.table nothing 0 in
+    let c = start_call true r.table None 0 in
     feed_all r.table c.state r.terms 1 (started c)
 
 -- How they are written down.
@@ -70,7 +69,7 @@ abbrev says : (answer errors walked : ℕ) → FeedNumbers
 says a e w = record { answer = a; errors = e; walked = w }
 
 abbrev run : List ℕ → List Term → FeedNumbers → List SeenReading → List ErrorRecord → Run
-run t xs a rs es = record { table = t; terms = xs; leaves = record { says = a; readings = just rs; errors = es } }
+run t xs a rs es = record { table = t; terms = xs; leaves = record { says = a; readings = Some rs; errors = es } }
 
 -- the start entry of all three tables
 abbrev one : SeenEntry

@@ -1,6 +1,6 @@
 -- The table file: what its bytes say. Which bytes are right stands in TableRight.
-use Rattle.std.specs.Prelude.{ℕ, zero, suc, ◌+◌, ◌-◌, ◌*◌, Bool, List, [], ◌∷◌, map, ltb, eqb, get_or}
-use Rattle.meaning.specs.Basics.{both, Maybe, nothing, just, find}
+use Rattle.std.specs.Prelude.{ℕ, zero, suc, ◌+◌, ◌-◌, ◌*◌, Bool, List, [], ◌∷◌, map, ltb, eqb, get_or, Option, None, Some}
+use Rattle.meaning.specs.Basics.{both, find}
 use Rattle.std.specs.Prelude.{if◌then◌else◌}
 use Rattle.meaning.specs.Bytes.{byte_at, u16_at, u32_at}
 use Rattle.meaning.specs.declared.Counts.{Counts}
@@ -47,11 +47,11 @@ rules_from (suc n) s p = rule_at s p ∷ rules_from n s (p + 17)
 pub record ActionRecord : Type 0 where
   pub state : ℕ
   pub class : ℕ
-  pub shift : Maybe ℕ
+  pub shift : Option ℕ
   pub rules : List ℕ
 
-unfoldable pub shift_to : ℕ → Maybe ℕ
-shift_to target = if eqb target 65535 then nothing else just target
+unfoldable pub shift_to : ℕ → Option ℕ
+shift_to target = if eqb target 65535 then None else Some target
 
 unfoldable pub numbers : (n : ℕ) → List ℕ → ℕ → List ℕ
 numbers zero s p = []
@@ -127,13 +127,13 @@ abbrev pub is_pair : (a b x y : ℕ) → Bool
 is_pair a b x y = both (eqb x a) (eqb y b)
 
 abbrev pub no_record : ActionRecord
-no_record = record { state = 0; class = 0; shift = nothing; rules = [] }
+no_record = record { state = 0; class = 0; shift = None; rules = [] }
 
 unfoldable pub action_of : Table → (state class : ℕ) → ActionRecord
 action_of t state class = find (λ a. is_pair state class a.state a.class) (λ a. a) no_record t.actions
 
-unfoldable pub goto_of : Table → (state nonterminal : ℕ) → Maybe ℕ
-goto_of t state nonterminal = find (λ g. is_pair state nonterminal g.state g.nonterminal) (λ g. just g.target) nothing t.gotos
+unfoldable pub goto_of : Table → (state nonterminal : ℕ) → Option ℕ
+goto_of t state nonterminal = find (λ g. is_pair state nonterminal g.state g.nonterminal) (λ g. Some g.target) None t.gotos
 
 abbrev pub no_rule : Rule
 no_rule = record { left = 0; len = 0; kind = 0; pick = 0; mark = 0; low = 0; high = 0 }
@@ -142,9 +142,9 @@ unfoldable pub rule_of : Table → ℕ → Rule
 rule_of t k = get_or t.rules k no_rule
 
 -- where a shift leads; 0 where there is none
-abbrev pub target : Maybe ℕ → ℕ
-target nothing = 0
-target (just to) = to
+abbrev pub target : Option ℕ → ℕ
+target None = 0
+target (Some to) = to
 
 -- the start shift's state
 unfoldable pub start_state : Table → ℕ

@@ -1,7 +1,7 @@
 -- When a table file is right: `table_ok` has every rule of the section. Wrong is answer 2.
-use Rattle.std.specs.Prelude.{ℕ, ◌+◌, ◌-◌, ◌*◌, ◌<◌, Bool, true, false, not, List, [], ◌∷◌, map, ltb, leb, eqb, length}
+use Rattle.std.specs.Prelude.{ℕ, ◌+◌, ◌-◌, ◌*◌, ◌<◌, Bool, true, false, not, List, [], ◌∷◌, map, ltb, leb, eqb, length, Option, None, Some}
 use Rattle.std.proofs.Common.{arith}
-use Rattle.meaning.specs.Basics.{both, either, Maybe, nothing, just, is_nil, every}
+use Rattle.meaning.specs.Basics.{both, either, is_nil, every}
 use Rattle.std.specs.Prelude.{if◌then◌else◌}
 use Rattle.meaning.specs.Bytes.{byte_at, u16_at}
 use Rattle.meaning.specs.Limits.{max_states, max_classes, max_nonterminals, max_rules, max_bytes}
@@ -56,13 +56,13 @@ rule_right c r = both (ltb r.left c.nonterminals) (both (leb r.len 15) (kind_rig
 
 -- An action record: every number below its count, at most 4 rules, and a shift or a rule.
 
-abbrev pub shifts : Maybe ℕ → Bool
-shifts nothing = false
-shifts (just to) = true
+abbrev pub shifts : Option ℕ → Bool
+shifts None = false
+shifts (Some to) = true
 
-abbrev pub shift_right : Counts → Maybe ℕ → Bool
-shift_right c nothing = true
-shift_right c (just to) = ltb to c.states
+abbrev pub shift_right : Counts → Option ℕ → Bool
+shift_right c None = true
+shift_right c (Some to) = ltb to c.states
 
 unfoldable pub rules_below : Counts → List ℕ → Bool
 rules_below c ks = every (λ k. ltb k c.rules) ks

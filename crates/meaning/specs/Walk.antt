@@ -1,6 +1,6 @@
 -- The walk: one planning, which is the whole walk of one stack at one class, with its limits and refusals.
-use Rattle.std.specs.Prelude.{ℕ, zero, suc, ◌+◌, Bool, List, [], ◌∷◌, leb, ltb, eqb, length, get_or, drop}
-use Rattle.meaning.specs.Basics.{both, either, Maybe, nothing, just}
+use Rattle.std.specs.Prelude.{ℕ, zero, suc, ◌+◌, Bool, List, [], ◌∷◌, leb, ltb, eqb, length, get_or, drop, Option, None, Some}
+use Rattle.meaning.specs.Basics.{both, either}
 use Rattle.std.specs.Prelude.{if◌then◌else◌}
 use Rattle.meaning.specs.Limits.{max_height, max_chain, max_walked}
 use Rattle.meaning.specs.TableFile.{Table, ActionRecord, goto_of, rule_of}
@@ -12,7 +12,7 @@ use Rattle.meaning.specs.declared.Refusal.TheVariants.{ReachesStart, NoGoto, Too
 
 -- What was walked at a stack: its reductions in order, each with the state that it leads to, what was walked from there (below) and what comes after it (beside); at last the shift, if any.
 pub data Walk : Type 0 where
-  shift : Maybe ℕ → Walk
+  shift : Option ℕ → Walk
   reduce : (rule target : ℕ) (below beside : Walk) → Walk
 
 -- A planning: refused, or walked, with the reductions tried so far in this planning and the chains ended so far in this stage of the call.
@@ -29,14 +29,14 @@ abbrev pub has_room : (room c : ℕ) → Bool
 has_room room c = ltb c room
 
 -- The shift ends a chain. If there is no room for one more chain, that is 11.
-unfoldable pub end_chain : (room : ℕ) → Maybe ℕ → (n c : ℕ) → Walked
-end_chain room nothing n c = walked (shift nothing) n c
-end_chain room (just to) n c = if has_room room c then walked (shift (just to)) n (c + 1) else refused TooManyReadings
+unfoldable pub end_chain : (room : ℕ) → Option ℕ → (n c : ℕ) → Walked
+end_chain room None n c = walked (shift None) n c
+end_chain room (Some to) n c = if has_room room c then walked (shift (Some to)) n (c + 1) else refused TooManyReadings
 
 -- no goto is 7
-abbrev pub or_no_goto : Maybe ℕ → (ℕ → Walked) → Walked
-or_no_goto nothing f = refused NoGoto
-or_no_goto (just to) f = f to
+abbrev pub or_no_goto : Option ℕ → (ℕ → Walked) → Walked
+or_no_goto None f = refused NoGoto
+or_no_goto (Some to) f = f to
 
 -- whether a planning may walk no more after n reductions
 abbrev pub walk_full : (n : ℕ) → Bool
@@ -52,7 +52,7 @@ reduction t q st left n go =
     if ltb max_height (length (drop q.len st) + 1) then refused TooHigh else go to (drop q.len st))
 
 -- The rule list of a state, then its shift. Each rule gives one reduction; `deeper` walks the state that it leads to.
-unfoldable pub walk_rules : Table → (room left : ℕ) → (deeper : List ℕ → ℕ → ℕ → Walked) → Maybe ℕ → List ℕ → List ℕ → (n c : ℕ) → Walked
+unfoldable pub walk_rules : Table → (room left : ℕ) → (deeper : List ℕ → ℕ → ℕ → Walked) → Option ℕ → List ℕ → List ℕ → (n c : ℕ) → Walked
 walk_rules t room left deeper sh st [] n c = end_chain room sh n c
 walk_rules t room left deeper sh st (k ∷ ks) n c =
     reduction t (rule_of t k) st left n λ to rest.
@@ -85,9 +85,9 @@ unfoldable pub size : Walk → ℕ
 size (shift sh) = 0
 size (reduce k to below beside) = 1 + size below + size beside
 
-abbrev pub one : Maybe ℕ → ℕ
-one nothing = 0
-one (just to) = 1
+abbrev pub one : Option ℕ → ℕ
+one None = 0
+one (Some to) = 1
 
 unfoldable pub chains : Walk → ℕ
 chains (shift sh) = one sh

@@ -2,13 +2,13 @@
 #![tactic(auto)]
 
 ghost use Rattle.std.specs.Prelude.{◌≡◌};
-ghost use Rattle.meaning.specs.Answers.{number, start_number, feed_numbers, question_numbers, stack_numbers};
+ghost use Rattle.meaning.specs.Answers.{number, start_numbers, feed_numbers, question_numbers, stack_numbers};
 
 // A cell's number and a state's: two types, so that neither is taken for the other.
-#[derive(Clone, Copy)]
+#[derive(Clone, Copy, Debug, PartialEq, Eq)]
 pub struct CellNo(pub u16);
 
-#[derive(Clone, Copy)]
+#[derive(Clone, Copy, Debug, PartialEq, Eq, Default)]
 pub struct StateNo(pub u16);
 
 // The classes that are no terms, and the first that is one.
@@ -45,7 +45,7 @@ pub const HEIGHTS: usize = MAX_HEIGHT as usize;
 pub const MAX_CHAINS: usize = MAX_READINGS as usize;
 
 // What is fed: a class, a value and a span.
-#[derive(Clone, Copy)]
+#[derive(Clone, Copy, Debug, PartialEq, Eq)]
 pub struct Term {
     pub class: u16,
     pub value: u32,
@@ -54,7 +54,7 @@ pub struct Term {
 }
 
 // What is seen of an entry. Its identity is not shown: no promise says which cell holds it.
-#[derive(Clone, Copy)]
+#[derive(Clone, Copy, Debug, PartialEq, Eq, Default)]
 pub struct Entry {
     pub state: StateNo,
     pub value: u32,
@@ -63,7 +63,7 @@ pub struct Entry {
 }
 
 // A refused action, or with rule 65,535 a reading that could not be planned.
-#[derive(Clone, Copy)]
+#[derive(Clone, Copy, Debug, PartialEq, Eq, Default)]
 pub struct ErrorRecord {
     pub rule: u16,
     pub state: StateNo,
@@ -71,7 +71,7 @@ pub struct ErrorRecord {
 }
 
 // Field 1 of a table file.
-#[derive(Clone, Copy)]
+#[derive(Clone, Copy, Debug, PartialEq, Eq)]
 pub struct Counts {
     pub states: u16,
     pub classes: u16,
@@ -80,14 +80,14 @@ pub struct Counts {
 }
 
 // Where a field's data begins and ends.
-#[derive(Clone, Copy)]
+#[derive(Clone, Copy, Debug, PartialEq, Eq)]
 pub struct Field {
     pub at: usize,
     pub end: usize,
 }
 
 // What lookups need to know of a checked table file: the counts, where fields 2, 3 and 4 stand, whether the error class is used.
-#[derive(Clone, Copy)]
+#[derive(Clone, Copy, Debug, PartialEq, Eq)]
 pub struct View {
     pub counts: Counts,
     pub rules: Field,
@@ -97,7 +97,7 @@ pub struct View {
 }
 
 // A rule of field 2.
-#[derive(Clone, Copy)]
+#[derive(Clone, Copy, Debug, PartialEq, Eq, Default)]
 pub struct Rule {
     pub left: u16,
     pub len: u8,
@@ -109,90 +109,90 @@ pub struct Rule {
 }
 
 // Why a call changed nothing: the answers 1 to 11, in their order.
-#[derive(Clone, Copy)]
+#[derive(Clone, Copy, Debug, PartialEq, Eq)]
 pub enum Refusal {
-    WrongLength,
-    WrongTable,
-    WrongState,
-    Consumed,
-    WrongArgument,
-    ReachesStart,
-    NoGoto,
-    TooHigh,
-    ChainTooLong,
-    WalkTooLong,
-    TooManyReadings,
+    WrongLength = 1,
+    WrongTable = 2,
+    WrongState = 3,
+    Consumed = 4,
+    WrongArgument = 5,
+    ReachesStart = 6,
+    NoGoto = 7,
+    TooHigh = 8,
+    ChainTooLong = 9,
+    WalkTooLong = 10,
+    TooManyReadings = 11,
 }
 
 impl Refusal {
     pub fn number(self) -> u8
         ensures { result ≡ number self }
     {
-        match self {
-            Refusal::WrongLength => 1,
-            Refusal::WrongTable => 2,
-            Refusal::WrongState => 3,
-            Refusal::Consumed => 4,
-            Refusal::WrongArgument => 5,
-            Refusal::ReachesStart => 6,
-            Refusal::NoGoto => 7,
-            Refusal::TooHigh => 8,
-            Refusal::ChainTooLong => 9,
-            Refusal::WalkTooLong => 10,
-            Refusal::TooManyReadings => 11,
+        self as u8
+    }
+}
+
+pub type StartAnswer = Result<(), Refusal>;
+
+pub type FeedAnswer = Result<FeedOutcome, Refusal>;
+
+// Yes is Ok(true), no is Ok(false).
+pub type QuestionAnswer = Result<bool, Refusal>;
+
+pub type StackAnswer = Result<StackOutcome, Refusal>;
+
+// Whether a reading took the term, the count of error records, the reductions walked.
+#[derive(Clone, Copy, Debug, PartialEq, Eq)]
+pub struct FeedOutcome {
+    pub taken: bool,
+    pub errors: usize,
+    pub walked: u32,
+}
+
+// The height and the mark of a stack that was read out.
+#[derive(Clone, Copy, Debug, PartialEq, Eq)]
+pub struct StackOutcome {
+    pub height: u16,
+    pub mark: u32,
+}
+
+// The answers as numbers: 0 for done, 1 to 11 for a refusal, 12 where no reading took the term.
+#[derive(Clone, Copy, Debug, PartialEq, Eq)]
+pub struct StartNumbers {
+    pub answer: u8,
+}
+
+impl From<StartAnswer> for StartNumbers {
+    ghost from_gives = { λ answer numbers. numbers ≡ start_numbers answer };
+
+    fn from(answer: StartAnswer) -> StartNumbers {
+        match answer {
+            Ok(()) => StartNumbers { answer: 0 },
+            Err(refusal) => StartNumbers {
+                answer: refusal.number(),
+            },
         }
     }
 }
 
-#[derive(Clone, Copy)]
-pub enum StartAnswer {
-    Done,
-    Refused(Refusal),
-}
-
-impl StartAnswer {
-    pub fn number(self) -> u8
-        ensures { result ≡ start_number self }
-    {
-        match self {
-            StartAnswer::Done => 0,
-            StartAnswer::Refused(refusal) => refusal.number(),
-        }
-    }
-}
-
-// Done is 0; NotTaken is 12: no reading took the term.
-#[derive(Clone, Copy)]
-pub enum FeedAnswer {
-    Done { errors: usize, walked: u32 },
-    NotTaken { errors: usize, walked: u32 },
-    Refused(Refusal),
-}
-
-// The answer's number, the count of error records, the reductions walked.
-#[derive(Clone, Copy)]
+#[derive(Clone, Copy, Debug, PartialEq, Eq)]
 pub struct FeedNumbers {
     pub answer: u8,
     pub errors: usize,
     pub walked: u32,
 }
 
-impl FeedAnswer {
-    pub fn numbers(self) -> FeedNumbers
-        ensures { result ≡ feed_numbers self }
-    {
-        match self {
-            FeedAnswer::Done { errors, walked } => FeedNumbers {
-                answer: 0,
-                errors,
-                walked,
+impl From<FeedAnswer> for FeedNumbers {
+    ghost from_gives = { λ answer numbers. numbers ≡ feed_numbers answer };
+
+    fn from(answer: FeedAnswer) -> FeedNumbers {
+        match answer {
+            Ok(outcome) => FeedNumbers {
+                answer: if outcome.taken { 0 } else { 12 },
+                errors: outcome.errors,
+                walked: outcome.walked,
             },
-            FeedAnswer::NotTaken { errors, walked } => FeedNumbers {
-                answer: 12,
-                errors,
-                walked,
-            },
-            FeedAnswer::Refused(refusal) => FeedNumbers {
+            Err(refusal) => FeedNumbers {
                 answer: refusal.number(),
                 errors: 0,
                 walked: 0,
@@ -201,33 +201,19 @@ impl FeedAnswer {
     }
 }
 
-#[derive(Clone, Copy)]
-pub enum QuestionAnswer {
-    Yes,
-    No,
-    Refused(Refusal),
-}
-
-#[derive(Clone, Copy)]
+#[derive(Clone, Copy, Debug, PartialEq, Eq)]
 pub struct QuestionNumbers {
     pub answer: u8,
     pub yes: bool,
 }
 
-impl QuestionAnswer {
-    pub fn numbers(self) -> QuestionNumbers
-        ensures { result ≡ question_numbers self }
-    {
-        match self {
-            QuestionAnswer::Yes => QuestionNumbers {
-                answer: 0,
-                yes: true,
-            },
-            QuestionAnswer::No => QuestionNumbers {
-                answer: 0,
-                yes: false,
-            },
-            QuestionAnswer::Refused(refusal) => QuestionNumbers {
+impl From<QuestionAnswer> for QuestionNumbers {
+    ghost from_gives = { λ answer numbers. numbers ≡ question_numbers answer };
+
+    fn from(answer: QuestionAnswer) -> QuestionNumbers {
+        match answer {
+            Ok(yes) => QuestionNumbers { answer: 0, yes },
+            Err(refusal) => QuestionNumbers {
                 answer: refusal.number(),
                 yes: false,
             },
@@ -235,30 +221,24 @@ impl QuestionAnswer {
     }
 }
 
-#[derive(Clone, Copy)]
-pub enum StackAnswer {
-    Read { height: u16, mark: u32 },
-    Refused(Refusal),
-}
-
-#[derive(Clone, Copy)]
+#[derive(Clone, Copy, Debug, PartialEq, Eq)]
 pub struct StackNumbers {
     pub answer: u8,
     pub height: u16,
     pub mark: u32,
 }
 
-impl StackAnswer {
-    pub fn numbers(self) -> StackNumbers
-        ensures { result ≡ stack_numbers self }
-    {
-        match self {
-            StackAnswer::Read { height, mark } => StackNumbers {
+impl From<StackAnswer> for StackNumbers {
+    ghost from_gives = { λ answer numbers. numbers ≡ stack_numbers answer };
+
+    fn from(answer: StackAnswer) -> StackNumbers {
+        match answer {
+            Ok(outcome) => StackNumbers {
                 answer: 0,
-                height,
-                mark,
+                height: outcome.height,
+                mark: outcome.mark,
             },
-            StackAnswer::Refused(refusal) => StackNumbers {
+            Err(refusal) => StackNumbers {
                 answer: refusal.number(),
                 height: 0,
                 mark: 0,

@@ -5,8 +5,9 @@ use mathlib.Core.Bool.{Bool, true, false, not}
 use mathlib.Core.List.{List, [], ◌∷◌, map}
 use lib.Dec.{leb}
 use lib.ListN.{length, get_or}
-use Rattle.meaning.specs.Basics.{nothing, just, is_nil}
-use Rattle.std.specs.Prelude.{if◌then◌else◌}
+use Rattle.meaning.specs.Answers.{QuestionAnswer}
+use Rattle.meaning.specs.Basics.{is_nil}
+use Rattle.std.specs.Prelude.{Ok, Err, if◌then◌else◌, None, Some}
 use Rattle.meaning.specs.Calls.{State, check_state, checked, written, StartCall, start_call, wrong_class, wrong_term, FeedCall, feed_refused, feed_ended, feed_right, feed_call, takes_right, takes_call, can_end_call, can_recover_call, StackCall, no_reading, stack_refused, stack_read, stack_right, stack_call}
 use Rattle.meaning.specs.Feeding.{feed}
 use Rattle.meaning.specs.Identities.{ren_reading}
@@ -18,8 +19,6 @@ use Rattle.meaning.specs.TableRight.{table_ok}
 use Rattle.meaning.specs.declared.Entry.{Entry as SeenEntry}
 use Rattle.meaning.specs.declared.ErrorRecord.{ErrorRecord}
 use Rattle.meaning.specs.declared.FeedNumbers.{FeedNumbers}
-use Rattle.meaning.specs.declared.QuestionAnswer.{QuestionAnswer}
-use Rattle.meaning.specs.declared.QuestionAnswer.TheVariants.{No, Refused}
 use Rattle.meaning.specs.declared.Refusal.{Refusal}
 use Rattle.meaning.specs.declared.Refusal.TheVariants.{WrongLength, WrongTable, WrongState, Consumed, WrongArgument}
 use Rattle.meaning.specs.declared.Term.{Term}
@@ -31,18 +30,18 @@ use Rattle.promises.proofs.Steps.{OfAll, fed_onward, left_onward}
 
 -- Past the same checks the same, if what comes after them is.
 checked_same : {A : Type 0} (R : A → A → Type 0) (lengths : Bool) (table : List ℕ) (s s' : State) (refuse refuse' : Refusal → A) (go go' : Table → List Reading → A) → SameState s s' →
-    ((k : Refusal) → R (refuse k) (refuse' k)) → ((t : Table) (rs rs' : List Reading) → s ≡ just rs → s' ≡ just rs' → Renamed rs rs' → R (go t rs) (go' t rs')) →
+    ((k : Refusal) → R (refuse k) (refuse' k)) → ((t : Table) (rs rs' : List Reading) → s ≡ Some rs → s' ≡ Some rs' → Renamed rs rs' → R (go t rs) (go' t rs')) →
     R (checked lengths table s refuse go) (checked lengths table s' refuse' go')
 checked_same R false table s s' refuse refuse' go go' h stop on = stop WrongLength
 checked_same R true table s s' refuse refuse' go go' h stop on = at (table_ok table) s s' h on
   where
-    at : (b : Bool) (s s' : State) → SameState s s' → ((t : Table) (rs rs' : List Reading) → s ≡ just rs → s' ≡ just rs' → Renamed rs rs' → R (go t rs) (go' t rs')) →
+    at : (b : Bool) (s s' : State) → SameState s s' → ((t : Table) (rs rs' : List Reading) → s ≡ Some rs → s' ≡ Some rs' → Renamed rs rs' → R (go t rs) (go' t rs')) →
         R (if not b then refuse WrongTable else check_state s refuse (go (table_of table))) (if not b then refuse' WrongTable else check_state s' refuse' (go' (table_of table)))
     at false s s' h on = stop WrongTable
-    at true nothing nothing h on = stop WrongState
-    at true nothing (just rs) h on = absurd h
-    at true (just rs) nothing h on = absurd h
-    at true (just rs) (just rs') h on = on (table_of table) rs rs' refl refl h
+    at true None None h on = stop WrongState
+    at true None (Some rs) h on = absurd h
+    at true (Some rs) None h on = absurd h
+    at true (Some rs) (Some rs') h on = on (table_of table) rs rs' refl refl h
 
 -- What is asked of readings is the same of the renamed ones.
 
@@ -65,20 +64,20 @@ module _ (lengths : Bool) (table : List ℕ) (s s' : State) (h : SameState s s')
   pub takes_same : (class : ℕ) → takes_call lengths table s class ≡ takes_call lengths table s' class
   unfolding takes_call takes_right
   takes_same class =
-      checked_same (λ (p q : QuestionAnswer). p ≡ q) lengths table s s' Refused Refused _ _ h (λ k. refl)
-      (λ t rs rs' d e. to_renamed (λ l. if is_nil l then No else if wrong_class t.counts.classes class then Refused WrongArgument else takes t class l) rs rs'
-      (λ ρ. ap₂ {C = QuestionAnswer} (λ b q. if b then No else if wrong_class t.counts.classes class then Refused WrongArgument else q) (sym (nil_map (ren_reading ρ) rs)) (takes_ren ρ t class rs)))
+      checked_same (λ (p q : QuestionAnswer). p ≡ q) lengths table s s' Err Err _ _ h (λ k. refl)
+      (λ t rs rs' d e. to_renamed (λ l. if is_nil l then Ok false else if wrong_class t.counts.classes class then Err WrongArgument else takes t class l) rs rs'
+      (λ ρ. ap₂ {C = QuestionAnswer} (λ b q. if b then Ok false else if wrong_class t.counts.classes class then Err WrongArgument else q) (sym (nil_map (ren_reading ρ) rs)) (takes_ren ρ t class rs)))
 
   pub can_end_same : can_end_call lengths table s ≡ can_end_call lengths table s'
   unfolding can_end_call can_end
   can_end_same =
-      checked_same (λ (p q : QuestionAnswer). p ≡ q) lengths table s s' Refused Refused _ _ h (λ k. refl) (λ t rs rs' d e. to_renamed (takes t end_class) rs rs' (λ ρ. takes_ren ρ t end_class rs))
+      checked_same (λ (p q : QuestionAnswer). p ≡ q) lengths table s s' Err Err _ _ h (λ k. refl) (λ t rs rs' d e. to_renamed (takes t end_class) rs rs' (λ ρ. takes_ren ρ t end_class rs))
 
   pub can_recover_same : can_recover_call lengths table s ≡ can_recover_call lengths table s'
   unfolding can_recover_call can_recover
   can_recover_same =
-      checked_same (λ (p q : QuestionAnswer). p ≡ q) lengths table s s' Refused Refused _ _ h (λ k. refl)
-      (λ t rs rs' d e. to_renamed (λ l. if t.recovers then some_recovers t l else No) rs rs' (λ ρ. ap (λ (q : QuestionAnswer). if t.recovers then q else No) (recovers_ren ρ t rs)))
+      checked_same (λ (p q : QuestionAnswer). p ≡ q) lengths table s s' Err Err _ _ h (λ k. refl)
+      (λ t rs rs' d e. to_renamed (λ l. if t.recovers then some_recovers t l else Ok false) rs rs' (λ ρ. ap (λ (q : QuestionAnswer). if t.recovers then q else Ok false) (recovers_ren ρ t rs)))
 
 -- Reading out.
 
@@ -112,7 +111,7 @@ start_same false table s s' n = refl
 start_same true table s s' n = at (table_ok table)
   where
     call : State → Bool → StartCall
-    call u b = (if not b then record { answer = 2; state = u } else record { answer = 0; state = just (start_reading (table_of table) n ∷ []) })
+    call u b = (if not b then record { answer = 2; state = u } else record { answer = 0; state = Some (start_reading (table_of table) n ∷ []) })
 
     at : (b : Bool) → (call s b).answer ≡ (call s' b).answer
     at true = refl
@@ -143,15 +142,15 @@ module _ (x : Term) (errors : List ErrorRecord) (n m : ℕ) where
         (at (is_nil rs) (wrong_term t.counts.classes x))
       where
         goes : Bool → Bool → List Reading → ℕ → FeedCall
-        goes c d l next = (if c then feed_refused (just l) errors Consumed else if d then feed_refused (just l) errors WrongArgument else feed_ended errors (feed t x l next))
+        goes c d l next = (if c then feed_refused (Some l) errors Consumed else if d then feed_refused (Some l) errors WrongArgument else feed_ended errors (feed t x l next))
 
         at : (c d : Bool) → SameCalls (goes c d rs n) (goes c d rs' m)
         at true d = record { says = refl; states = h; errors = refl }
         at false true = record { says = refl; states = h; errors = refl }
         at false false = ended_same
 
-  pub feed_same : (lengths : Bool) (table : List ℕ) (s s' : State) → SameState s s' → ((rs : List Reading) → s ≡ just rs → OfAll (λ i. i < n) rs) →
-      ((rs : List Reading) → s' ≡ just rs → OfAll (λ i. i < m) rs) → SameCalls (feed_call lengths table s x errors n) (feed_call lengths table s' x errors m)
+  pub feed_same : (lengths : Bool) (table : List ℕ) (s s' : State) → SameState s s' → ((rs : List Reading) → s ≡ Some rs → OfAll (λ i. i < n) rs) →
+      ((rs : List Reading) → s' ≡ Some rs → OfAll (λ i. i < m) rs) → SameCalls (feed_call lengths table s x errors n) (feed_call lengths table s' x errors m)
   unfolding feed_call
   feed_same lengths table s s' h a b =
       checked_same SameCalls lengths table s s' (feed_refused s errors) (feed_refused s' errors) _ _ h (λ k. record { says = refl; states = h; errors = refl })

@@ -7,16 +7,14 @@ use mathlib.Core.List.{List, [], ◌∷◌}
 use mathlib.Core.Logic.{◌⊎◌, inl, inr}
 use lib.Dec.{leb}
 use lib.ListN.{length, get_or}
-use Rattle.meaning.specs.Answers.{number, question_numbers}
-use Rattle.meaning.specs.Basics.{is_nil, just, AllOf}
-use Rattle.std.specs.Prelude.{if◌then◌else◌}
+use Rattle.meaning.specs.Answers.{QuestionAnswer, number, question_numbers}
+use Rattle.meaning.specs.Basics.{is_nil, AllOf}
+use Rattle.std.specs.Prelude.{Ok, Err, if◌then◌else◌, Some}
 use Rattle.meaning.specs.Calls.{State, checked, wrong_class, takes_right, takes_call, can_end_call, can_recover_call, StackCall, no_reading, stack_refused, stack_read, stack_right, stack_call}
 use Rattle.meaning.specs.Questions.{takes, can_end, can_recover}
 use Rattle.meaning.specs.Readings.{Reading}
 use Rattle.meaning.specs.TableFile.{Table, table_of}
 use Rattle.meaning.specs.declared.Entry.{Entry as SeenEntry}
-use Rattle.meaning.specs.declared.QuestionAnswer.{QuestionAnswer}
-use Rattle.meaning.specs.declared.QuestionAnswer.TheVariants.{Yes, No, Refused}
 use Rattle.meaning.specs.declared.Refusal.{Refusal}
 use Rattle.meaning.specs.declared.Refusal.TheVariants.{Consumed, WrongArgument}
 use Rattle.meaning.proofs.Questions.{OnlyFrom6To10, takes_only, can_end_only, can_recover_only}
@@ -46,16 +44,16 @@ number_not_4 n h e = at h.0
     at (inr l) = omega arith
 
 asked : (lengths : Bool) (table : List ℕ) (state : State) (go : Table → List Reading → QuestionAnswer) → ((t : Table) (rs : List Reading) → Number (question_numbers (go t rs)).answer) →
-    Asked lengths state (question_numbers (checked lengths table state Refused go)).answer
-asked lengths table state go h = at (checks lengths table state Refused go)
+    Asked lengths state (question_numbers (checked lengths table state Err go)).answer
+asked lengths table state go h = at (checks lengths table state Err go)
   where
     n : ℕ
-    n = (question_numbers (checked lengths table state Refused go)).answer
+    n = (question_numbers (checked lengths table state Err go)).answer
 
     told : Tells lengths state n
-    told = tells lengths table state Refused go (λ (q : QuestionAnswer). (question_numbers q).answer) (λ k. refl) (λ t rs. number_later (question_numbers (go t rs)).answer (h t rs))
+    told = tells lengths table state Err go (λ (q : QuestionAnswer). (question_numbers q).answer) (λ k. refl) (λ t rs. number_later (question_numbers (go t rs)).answer (h t rs))
 
-    at : Stopped lengths table state Refused go ⊎ Passed lengths table state Refused go → Asked lengths state n
+    at : Stopped lengths table state Err go ⊎ Passed lengths table state Err go → Asked lengths state n
     at (inl s) =
         let e : n ≡ number s.by = ap (λ (q : QuestionAnswer). (question_numbers q).answer) s.is in
         let f = s.few in
@@ -67,9 +65,8 @@ asked lengths table state go h = at (checks lengths table state Refused go)
         record { few = omega arith; not_4 = λ z. number_not_4 (question_numbers (go (table_of table) p.found)).answer g (sym e ∙ z); tells_of = told }
 
 only_number : (q : QuestionAnswer) → OnlyFrom6To10 q → Number (question_numbers q).answer
-only_number Yes h = (inl refl, omega arith)
-only_number No h = (inl refl, omega arith)
-only_number (Refused k) h = let a = h.0 in (inr (omega arith), h.1)
+only_number (Ok b) h = (inl refl, omega arith)
+only_number (Err k) h = let a = h.0 in (inr (omega arith), h.1)
 
 module _ (lengths : Bool) (table : List ℕ) (state : State) where
   pub takes_asked : (class : ℕ) → Asked lengths state (question_numbers (takes_call lengths table state class)).answer
@@ -79,7 +76,7 @@ module _ (lengths : Bool) (table : List ℕ) (state : State) where
       (λ t rs. at (is_nil rs) (wrong_class t.counts.classes class) t rs)
     where
       go : Bool → Bool → Table → List Reading → QuestionAnswer
-      go b d t rs = (if b then No else if d then Refused WrongArgument else takes t class rs)
+      go b d t rs = (if b then Ok false else if d then Err WrongArgument else takes t class rs)
 
       at : (b d : Bool) (t : Table) (rs : List Reading) → Number (question_numbers (go b d t rs)).answer
       at true d t rs = (inl refl, omega arith)
@@ -104,7 +101,7 @@ module _ (lengths : Bool) (table : List ℕ) (state : State) (i : ℕ) (entries 
   pub record StackWent : Type 0 where
     pub found : List Reading
     pub right_lengths : lengths ≡ true
-    pub state_is : state ≡ just found
+    pub state_is : state ≡ Some found
     pub there : leb (length found) i ≡ false
     pub is : stack_call lengths table state i entries ≡ stack_read entries (get_or found i no_reading)
 

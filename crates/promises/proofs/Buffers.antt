@@ -8,8 +8,7 @@ use lib.Dec.{eqb}
 use lib.ListN.{length, drop, length-append, length-drop}
 use lib.Seq.{drop-append_seam}
 use borrow.Author.Tests.{eqb-true, eq-eqb}
-use Rattle.meaning.specs.Basics.{nothing, just}
-use Rattle.std.specs.Prelude.{if◌then◌else◌}
+use Rattle.std.specs.Prelude.{if◌then◌else◌, None, Some}
 use Rattle.meaning.specs.Calls.{State, written}
 use Rattle.meaning.specs.Limits.{max_height, max_errors}
 use Rattle.meaning.specs.Readings.{Reading}
@@ -26,33 +25,33 @@ use Rattle.promises.proofs.Checks.{no_nothing}
 -- A state is found exactly where the buffer fits the table, and it is the buffer's readings.
 
 abbrev readings_or : List Reading → State → List Reading
-readings_or rs nothing = rs
-readings_or rs (just rs') = rs'
+readings_or rs None = rs
+readings_or rs (Some rs') = rs'
 
 pub record Holds (table state : List ℕ) (rs : List Reading) : Type 0 where
   pub fits : Fits table state
   pub are : rs ≡ readings_of state
   pub facts : Known (table_of table).counts.states (used_of state) rs
 
-pub found_holds : (table state : List ℕ) (rs : List Reading) → state_for table state ≡ just rs → Holds table state rs
+pub found_holds : (table state : List ℕ) (rs : List Reading) → state_for table state ≡ Some rs → Holds table state rs
 found_holds table state rs e = at (valid_state (table_of table).counts.states state) refl e
   where
-    at : (b : Bool) → valid_state (table_of table).counts.states state ≡ b → (if b then just (readings_of state) else nothing) ≡ just rs → Holds table state rs
+    at : (b : Bool) → valid_state (table_of table).counts.states state ≡ b → (if b then Some (readings_of state) else None) ≡ Some rs → Holds table state rs
     at true q f =
         let r : readings_of state ≡ rs = ap (readings_or rs) f in
         record { fits = q; are = sym r; facts = subst (Known (table_of table).counts.states (used_of state)) r (known (table_of table).counts.states state q) }
     at false q f = no_nothing rs (sym f)
 
-pub fits_found : (table state : List ℕ) → Fits table state → state_for table state ≡ just (readings_of state)
+pub fits_found : (table state : List ℕ) → Fits table state → state_for table state ≡ Some (readings_of state)
 fits_found table state f = rw f
 
-pub fits_some : (table state : List ℕ) → Fits table state → state_for table state ≡ nothing → ⊥
+pub fits_some : (table state : List ℕ) → Fits table state → state_for table state ≡ None → ⊥
 fits_some table state f e = no_nothing (readings_of state) (sym (fits_found table state f) ∙ e)
 
-pub some_fits : (table state : List ℕ) → (state_for table state ≡ nothing → ⊥) → Fits table state
+pub some_fits : (table state : List ℕ) → (state_for table state ≡ None → ⊥) → Fits table state
 some_fits table state h = at (valid_state (table_of table).counts.states state) refl h
   where
-    at : (b : Bool) → valid_state (table_of table).counts.states state ≡ b → ((if b then just (readings_of state) else nothing) ≡ nothing → ⊥) → Fits table state
+    at : (b : Bool) → valid_state (table_of table).counts.states state ≡ b → ((if b then Some (readings_of state) else None) ≡ None → ⊥) → Fits table state
     at true q g = q
     at false q g = absurd (g refl)
 

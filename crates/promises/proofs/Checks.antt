@@ -6,8 +6,8 @@ use mathlib.Core.Bool.{Bool, true, false, not}
 use mathlib.Core.List.{List, [], ◌∷◌}
 use mathlib.Core.Logic.{◌⊎◌, inl, inr}
 use Rattle.meaning.specs.Answers.{done, number}
-use Rattle.meaning.specs.Basics.{nothing, just, is_nil}
-use Rattle.std.specs.Prelude.{if◌then◌else◌}
+use Rattle.meaning.specs.Basics.{is_nil}
+use Rattle.std.specs.Prelude.{if◌then◌else◌, None, Some}
 use Rattle.meaning.specs.Calls.{State, check_state, checked, StartCall, start_call, wrong_term, FeedCall, feed_refused, feed_ended, feed_right, feed_call}
 use Rattle.meaning.specs.Feeding.{feed}
 use Rattle.meaning.specs.Readings.{Reading, start_reading}
@@ -23,10 +23,10 @@ use Rattle.promises.specs.Claims.{PassedCheck}
 use Rattle.promises.proofs.Refusals.{feed_ranged}
 
 abbrev Found : State → Type 0
-Found nothing = ⊥
-Found (just rs) = Unit {0}
+Found None = ⊥
+Found (Some rs) = Unit {0}
 
-pub no_nothing : {A : Type 0} (rs : List Reading) → just rs ≡ nothing → A
+pub no_nothing : {A : Type 0} (rs : List Reading) → Some rs ≡ None → A
 no_nothing rs e = absurd (subst Found e tt)
 
 -- Checks 1, 2 and 3: a call is stopped by one of them, or passes them all.
@@ -37,13 +37,13 @@ module _ {A : Type 0} (lengths : Bool) (table : List ℕ) (state : State) (refus
     pub few : number by ≤ 3
     pub wrong_lengths : lengths ≡ false → number by ≡ 1
     pub right_lengths : lengths ≡ true → 2 ≤ number by
-    pub right_state : (state ≡ nothing → ⊥) → number by ≤ 2
+    pub right_state : (state ≡ None → ⊥) → number by ≤ 2
 
   pub record Passed : Type 0 where
     pub found : List Reading
     pub right_lengths : lengths ≡ true
     pub right_table : table_ok table ≡ true
-    pub state_is : state ≡ just found
+    pub state_is : state ≡ Some found
     pub is : checked lengths table state refuse go ≡ go (table_of table) found
 
 pub checks : {A : Type 0} (lengths : Bool) (table : List ℕ) (state : State) (refuse : Refusal → A) (go : Table → List Reading → A) →
@@ -59,9 +59,9 @@ checks {A} true table state refuse go = at (table_ok table) refl state
     at : (b : Bool) → table_ok table ≡ b → (s : State) → Stopped true table s refuse go ⊎ Passed true table s refuse go
     at false e s =
         inl (record { by = WrongTable; is = ap (left s) e; few = omega arith; wrong_lengths = λ q. no_false (sym q); right_lengths = λ q. omega arith; right_state = λ h. omega arith })
-    at true e nothing =
-        inl (record { by = WrongState; is = ap (left nothing) e; few = omega arith; wrong_lengths = λ q. no_false (sym q); right_lengths = λ q. omega arith; right_state = λ h. absurd (h refl) })
-    at true e (just rs) = inr (record { found = rs; right_lengths = refl; right_table = e; state_is = refl; is = ap (left (just rs)) e })
+    at true e None =
+        inl (record { by = WrongState; is = ap (left None) e; few = omega arith; wrong_lengths = λ q. no_false (sym q); right_lengths = λ q. omega arith; right_state = λ h. absurd (h refl) })
+    at true e (Some rs) = inr (record { found = rs; right_lengths = refl; right_table = e; state_is = refl; is = ap (left (Some rs)) e })
 
 -- What a call's number tells of the checks, where a call that passes them answers 0, 4 or above.
 
@@ -71,8 +71,8 @@ Later n = (n ≡ 0) ⊎ (4 ≤ n)
 pub record Tells (lengths : Bool) (state : State) (n : ℕ) : Type 0 where
   pub wrong_lengths : lengths ≡ false → n ≡ 1
   pub right_lengths : lengths ≡ true → n ≡ 1 → ⊥
-  pub right_state : (state ≡ nothing → ⊥) → n ≡ 3 → ⊥
-  pub passed : PassedCheck n → state ≡ nothing → ⊥
+  pub right_state : (state ≡ None → ⊥) → n ≡ 3 → ⊥
+  pub passed : PassedCheck n → state ≡ None → ⊥
 
 pub tells : {A : Type 0} (lengths : Bool) (table : List ℕ) (state : State) (refuse : Refusal → A) (go : Table → List Reading → A) (num : A → ℕ) → ((k : Refusal) → num (refuse k) ≡ number k) →
     ((t : Table) (rs : List Reading) → Later (num (go t rs))) → Tells lengths state (num (checked lengths table state refuse go))
@@ -115,7 +115,7 @@ module _ (lengths : Bool) (table : List ℕ) (state : State) (next : ℕ) where
   pub record StartWent : Type 0 where
     pub lengths_hold : lengths ≡ true
     pub right_table : table_ok table ≡ true
-    pub is : start_call lengths table state next ≡ record { answer = done; state = just (start_reading (table_of table) next ∷ []) }
+    pub is : start_call lengths table state next ≡ record { answer = done; state = Some (start_reading (table_of table) next ∷ []) }
 
 pub start_case : (lengths : Bool) (table : List ℕ) (state : State) (next : ℕ) → StartStopped lengths table state next ⊎ StartWent lengths table state next
 unfolding start_call
@@ -123,7 +123,7 @@ start_case false table state next = inl (record { by = WrongLength; is = refl; f
 start_case true table state next = at (table_ok table) refl
   where
     left : Bool → StartCall
-    left b = (if not b then record { answer = number WrongTable; state = state } else record { answer = done; state = just (start_reading (table_of table) next ∷ []) })
+    left b = (if not b then record { answer = number WrongTable; state = state } else record { answer = done; state = Some (start_reading (table_of table) next ∷ []) })
 
     at : (b : Bool) → table_ok table ≡ b → StartStopped true table state next ⊎ StartWent true table state next
     at false e = inl (record { by = WrongTable; is = ap left e; few = omega arith; wrong_lengths = λ q. no_false (sym q); right_lengths = λ q. refl })
@@ -140,14 +140,14 @@ module _ (lengths : Bool) (table : List ℕ) (state : State) (x : Term) (errors 
     pub found : List Reading
     pub right_lengths : lengths ≡ true
     pub right_table : table_ok table ≡ true
-    pub state_is : state ≡ just found
+    pub state_is : state ≡ Some found
     pub some : is_nil found ≡ false
     pub right_term : wrong_term (table_of table).counts.classes x ≡ false
     pub is : feed_call lengths table state x errors next ≡ feed_ended errors (feed (table_of table) x found next)
 
   -- what a feed does once the checks are passed, by two tests
   abbrev pub goes_by : Bool → Bool → Table → List Reading → FeedCall
-  goes_by b d t rs = (if b then feed_refused (just rs) errors Consumed else if d then feed_refused (just rs) errors WrongArgument else feed_ended errors (feed t x rs next))
+  goes_by b d t rs = (if b then feed_refused (Some rs) errors Consumed else if d then feed_refused (Some rs) errors WrongArgument else feed_ended errors (feed t x rs next))
 
   abbrev pub goes : Table → List Reading → FeedCall
   goes t rs = goes_by (is_nil rs) (wrong_term t.counts.classes x) t rs
@@ -172,7 +172,7 @@ module _ (lengths : Bool) (table : List ℕ) (state : State) (x : Term) (errors 
   unfolding feed_call feed_right
   feed_case = at (checks lengths table state (feed_refused state errors) goes)
     where
-      kept : (p : Passed lengths table state (feed_refused state errors) goes) (k : Refusal) → feed_refused (just p.found) errors k ≡ feed_refused state errors k
+      kept : (p : Passed lengths table state (feed_refused state errors) goes) (k : Refusal) → feed_refused (Some p.found) errors k ≡ feed_refused state errors k
       kept p k = ap (λ (s : State). feed_refused s errors k) (sym p.state_is)
 
       past : (p : Passed lengths table state (feed_refused state errors) goes) (b : Bool) → is_nil p.found ≡ b → (d : Bool) → wrong_term (table_of table).counts.classes x ≡ d → FeedStopped ⊎ FeedWent
@@ -195,7 +195,7 @@ module _ (lengths : Bool) (table : List ℕ) (state : State) (x : Term) (errors 
       at (inr p) = past p (is_nil p.found) refl (wrong_term (table_of table).counts.classes x) refl
 
   -- where all is right, it is fed
-  pub feed_goes : lengths ≡ true → table_ok table ≡ true → (rs : List Reading) → state ≡ just rs → is_nil rs ≡ false → wrong_term (table_of table).counts.classes x ≡ false → FeedWent
+  pub feed_goes : lengths ≡ true → table_ok table ≡ true → (rs : List Reading) → state ≡ Some rs → is_nil rs ≡ false → wrong_term (table_of table).counts.classes x ≡ false → FeedWent
   unfolding feed_call feed_right
   feed_goes a b rs c d e = record { found = rs; right_lengths = a; right_table = b; state_is = c; some = d; right_term = e; is = fed }
     where

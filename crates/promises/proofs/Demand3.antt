@@ -7,8 +7,9 @@ use mathlib.Core.List.{List, map}
 use mathlib.Core.Logic.{◌⊎◌, inl, inr}
 use lib.ListN.{length, take, drop}
 use lib.Seq.{take-append_seam}
-use Rattle.meaning.specs.Answers.{number, feed_numbers}
-use Rattle.meaning.specs.Basics.{nothing, just, is_nil}
+use Rattle.std.specs.Prelude.{None, Some}
+use Rattle.meaning.specs.Answers.{FeedAnswer, number, feed_numbers}
+use Rattle.meaning.specs.Basics.{is_nil}
 use Rattle.meaning.specs.Calls.{State, wrong_term, FeedCall}
 use Rattle.meaning.specs.Demand3.{Same, Undisturbed, Alike, ByChains}
 use Rattle.meaning.specs.Feeding.{feed}
@@ -17,7 +18,6 @@ use Rattle.meaning.specs.Readings.{Reading, plain}
 use Rattle.meaning.specs.TableFile.{table_of}
 use Rattle.meaning.specs.TableRight.{table_ok}
 use Rattle.meaning.specs.declared.ErrorRecord.{ErrorRecord}
-use Rattle.meaning.specs.declared.FeedAnswer.{FeedAnswer}
 use Rattle.meaning.specs.declared.FeedNumbers.{FeedNumbers}
 use Rattle.meaning.specs.declared.Term.{Term}
 use Rattle.meaning.proofs.Bags.{perm_between, nil_perm}
@@ -40,12 +40,12 @@ pub record Came (f g : Fed) : Type 0 where
   pub readings : Renamed f.readings g.readings
 
 -- the readings of a buffer that holds the same
-same_readings : (table state' : List ℕ) (rs : List Reading) (s : State) → s ≡ just rs → SameState s (state_for table state') → Renamed rs (readings_of state')
+same_readings : (table state' : List ℕ) (rs : List Reading) (s : State) → s ≡ Some rs → SameState s (state_for table state') → Renamed rs (readings_of state')
 same_readings table state' rs s e h = at (state_for table state') refl (subst (λ (u : State). SameState u (state_for table state')) e h)
   where
-    at : (u : State) → state_for table state' ≡ u → SameState (just rs) u → Renamed rs (readings_of state')
-    at nothing q k = absurd k
-    at (just rs') q k = subst (Renamed rs) (found_holds table state' rs' q).are k
+    at : (u : State) → state_for table state' ≡ u → SameState (Some rs) u → Renamed rs (readings_of state')
+    at None q k = absurd k
+    at (Some rs') q k = subst (Renamed rs) (found_holds table state' rs' q).are k
 
 module _ (table state work : List ℕ) (x : Term) (errors : List ErrorRecord) (r : FeedAnswer) (state' work' : List ℕ) (errors' : List ErrorRecord)
     (a : FeedPromise table state work x errors r state' work' errors') where

@@ -5,8 +5,8 @@ use mathlib.Core.List.{List, [], ◌∷◌, ◌++◌, map}
 use Prim.Native.Nat.{ℕ}
 use lib.Dec.{eqb}
 use borrow.Author.Tests.{eqb-true, eq-eqb}
-use Rattle.meaning.specs.Basics.{either, nothing, just, flat, find, AllOf}
-use Rattle.std.specs.Prelude.{if◌then◌else◌}
+use Rattle.meaning.specs.Basics.{either, flat, find, AllOf}
+use Rattle.std.specs.Prelude.{if◌then◌else◌, None, Some}
 use Rattle.meaning.specs.Calls.{State}
 use Rattle.meaning.specs.Identities.{ren_entry, ren_reading}
 use Rattle.meaning.specs.Readings.{Entry, Reading, plain, holds, held_by}
@@ -105,8 +105,8 @@ pub renamed_self : (rs : List Reading) → Renamed rs rs
 renamed_self rs = record { rename = λ b. b; same = sym (same_readings rs); apart = λ a b h k e. e }
 
 pub state_self : (s : State) → SameState s s
-state_self nothing = tt
-state_self (just rs) = renamed_self rs
+state_self None = tt
+state_self (Some rs) = renamed_self rs
 
 pub renamed_back : (rs rs' : List Reading) → Renamed rs rs' → Renamed rs' rs
 renamed_back rs rs' a = subst (λ (l : List Reading). Renamed l rs) (sym a.same) there
@@ -151,14 +151,14 @@ renamed_plain rs rs' a = ap (map plain) a.same ∙ twice_readings a.rename (λ b
 -- The same of states.
 
 pub state_back : (s s' : State) → SameState s s' → SameState s' s
-state_back nothing nothing h = tt
-state_back nothing (just rs) h = absurd h
-state_back (just rs) nothing h = absurd h
-state_back (just rs) (just rs') h = renamed_back rs rs' h
+state_back None None h = tt
+state_back None (Some rs) h = absurd h
+state_back (Some rs) None h = absurd h
+state_back (Some rs) (Some rs') h = renamed_back rs rs' h
 
 pub state_on : (s s' s'' : State) → SameState s s' → SameState s' s'' → SameState s s''
-state_on nothing nothing s'' h k = k
-state_on nothing (just rs) s'' h k = absurd h
-state_on (just rs) nothing s'' h k = absurd h
-state_on (just rs) (just rs') nothing h k = absurd k
-state_on (just rs) (just rs') (just rs'') h k = renamed_on rs rs' rs'' h k
+state_on None None s'' h k = k
+state_on None (Some rs) s'' h k = absurd h
+state_on (Some rs) None s'' h k = absurd h
+state_on (Some rs) (Some rs') None h k = absurd k
+state_on (Some rs) (Some rs') (Some rs'') h k = renamed_on rs rs' rs'' h k

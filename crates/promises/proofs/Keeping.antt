@@ -7,7 +7,8 @@ use mathlib.Core.List.{List, map}
 use mathlib.Core.Logic.{◌⊎◌, inl, inr}
 use lib.ListN.{length, get_or, drop}
 use borrow.Author.Tests.{leb-false}
-use Rattle.meaning.specs.Answers.{number, start_number, feed_numbers, question_numbers, stack_numbers}
+use Rattle.std.specs.Prelude.{Ok, Err, if◌then◌else◌}
+use Rattle.meaning.specs.Answers.{StartAnswer, FeedAnswer, QuestionAnswer, StackAnswer, number, start_number, feed_numbers, question_numbers, stack_numbers, done, not_taken}
 use Rattle.meaning.specs.Bounds.{Standing, Bounded}
 use Rattle.meaning.specs.Calls.{State, no_reading, StartCall, FeedCall, StackCall}
 use Rattle.meaning.specs.Feeding.{feed}
@@ -15,13 +16,8 @@ use Rattle.meaning.specs.Readings.{Reading, seen}
 use Rattle.meaning.specs.TableFile.{table_of}
 use Rattle.meaning.specs.declared.Entry.{Entry as SeenEntry}
 use Rattle.meaning.specs.declared.ErrorRecord.{ErrorRecord}
-use Rattle.meaning.specs.declared.FeedAnswer.{FeedAnswer}
-use Rattle.meaning.specs.declared.FeedAnswer.TheVariants as fed
 use Rattle.meaning.specs.declared.FeedNumbers.{FeedNumbers}
-use Rattle.meaning.specs.declared.QuestionAnswer.{QuestionAnswer}
-use Rattle.meaning.specs.declared.StackAnswer.{StackAnswer}
 use Rattle.meaning.specs.declared.StackNumbers.{StackNumbers}
-use Rattle.meaning.specs.declared.StartAnswer.{StartAnswer}
 use Rattle.meaning.specs.declared.StateNo.{StateNo}
 use Rattle.meaning.specs.declared.Term.{Term}
 use Rattle.meaning.proofs.Bounds.{bounds}
@@ -130,9 +126,12 @@ module _ (table state : List ℕ) (i : ℕ) (entries : List SeenEntry) (r : Stac
 
 -- a refusal has no errors
 refusing_none : (r : FeedAnswer) → Refusing (feed_numbers r).answer → (feed_numbers r).errors ≡ 0
-refusing_none (fed.Done errors walked) h = let z = h.0 in absurd (omega arith)
-refusing_none (fed.NotTaken errors walked) h = let z = h.1 in absurd (omega arith)
-refusing_none (fed.Refused k) h = refl
+refusing_none (Ok f) h = absurd (never f.taken h)
+  where
+    never : (taken : Bool) → Refusing (if taken then done else not_taken) → ⊥
+    never true h = let z = h.0 in omega arith
+    never false h = let z = h.1 in omega arith
+refusing_none (Err k) h = refl
 
 module _ (table state work : List ℕ) (x : Term) (errors : List ErrorRecord) (r : FeedAnswer) (state' work' : List ℕ) (errors' : List ErrorRecord)
     (a : FeedPromise table state work x errors r state' work' errors') where

@@ -6,20 +6,16 @@ use mathlib.Core.Bool.{Bool}
 use mathlib.Core.List.{List, [], ◌∷◌}
 use mathlib.Core.Logic.{◌⊎◌, inl, inr}
 use lib.ListN.{length}
-use Rattle.meaning.specs.Answers.{number, start_number, feed_numbers, question_numbers, stack_numbers}
-use Rattle.meaning.specs.Basics.{nothing, just}
+use Rattle.std.specs.Prelude.{None, Some}
+use Rattle.meaning.specs.Answers.{StartAnswer, FeedAnswer, QuestionAnswer, StackAnswer, number, start_number, feed_numbers, question_numbers, stack_numbers}
 use Rattle.meaning.specs.Calls.{State, StartCall, FeedCall}
 use Rattle.meaning.specs.Feeding.{feed}
 use Rattle.meaning.specs.Readings.{start_reading}
 use Rattle.meaning.specs.TableFile.{table_of}
 use Rattle.meaning.specs.declared.Entry.{Entry as SeenEntry}
 use Rattle.meaning.specs.declared.ErrorRecord.{ErrorRecord}
-use Rattle.meaning.specs.declared.FeedAnswer.{FeedAnswer}
 use Rattle.meaning.specs.declared.FeedNumbers.{FeedNumbers}
-use Rattle.meaning.specs.declared.QuestionAnswer.{QuestionAnswer}
-use Rattle.meaning.specs.declared.StackAnswer.{StackAnswer}
 use Rattle.meaning.specs.declared.StackNumbers.{StackNumbers}
-use Rattle.meaning.specs.declared.StartAnswer.{StartAnswer}
 use Rattle.meaning.specs.declared.Term.{Term}
 use Rattle.meaning.proofs.Settled.{number_range}
 use Rattle.state.specs.Readings.{used_of}
@@ -45,11 +41,11 @@ start_leaves table state work r state' work' a z = at (start_case b table (state
     at (inr w) = (found_holds table state' (start_reading (table_of table) 0 ∷ []) (a.leaves.readings ∙ ap (λ (c : StartCall). c.state) w.is)).fits
 
 -- Feed: what it leaves is found, if what it began with was.
-same_some : (s s' : State) → SameState s s' → (s ≡ nothing → ⊥) → s' ≡ nothing → ⊥
-same_some nothing nothing h f e = f refl
-same_some nothing (just rs) h f e = h
-same_some (just rs) nothing h f e = h
-same_some (just rs) (just rs') h f e = no_nothing rs' e
+same_some : (s s' : State) → SameState s s' → (s ≡ None → ⊥) → s' ≡ None → ⊥
+same_some None None h f e = f refl
+same_some None (Some rs) h f e = h
+same_some (Some rs) None h f e = h
+same_some (Some rs) (Some rs') h f e = no_nothing rs' e
 
 module _ (table state work : List ℕ) (x : Term) (errors : List ErrorRecord) (r : FeedAnswer) (state' work' : List ℕ) (errors' : List ErrorRecord)
     (a : FeedPromise table state work x errors r state' work' errors') where
@@ -60,10 +56,10 @@ module _ (table state work : List ℕ) (x : Term) (errors : List ErrorRecord) (r
   told =
       subst (λ (m : FeedNumbers). Tells right (state_for table state) m.answer) (sym a.leaves.answers) (feed_tells right table (state_for table state) x errors (used_of state))
 
-  kept : (state_for table state ≡ nothing → ⊥) → Fits table state'
+  kept : (state_for table state ≡ None → ⊥) → Fits table state'
   kept h = some_fits table state' (same_some (feed_on table state work x errors).state (state_for table state') a.leaves.readings (at (feed_case right table (state_for table state) x errors (used_of state))))
     where
-      at : FeedStopped right table (state_for table state) x errors (used_of state) ⊎ FeedWent right table (state_for table state) x errors (used_of state) → (feed_on table state work x errors).state ≡ nothing → ⊥
+      at : FeedStopped right table (state_for table state) x errors (used_of state) ⊎ FeedWent right table (state_for table state) x errors (used_of state) → (feed_on table state work x errors).state ≡ None → ⊥
       at (inl s) e = h (sym (ap (λ (c : FeedCall). c.state) s.is) ∙ e)
       at (inr w) e = no_nothing (feed (table_of table) x w.found (used_of state)).readings (sym (ap (λ (c : FeedCall). c.state) w.is) ∙ e)
 

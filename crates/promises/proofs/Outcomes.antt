@@ -1,26 +1,19 @@
 -- Each promise leaves one outcome: any two that it allows are equal, of start, of the questions and of reading out to the last byte, of a feed but for which cell holds which entry. Assumes nothing.
 use mathlib.Core.Path.{◌≡◌, refl, sym, ap, ◌∙◌, subst}
-use mathlib.Core.Bool.{Bool}
+use mathlib.Core.Bool.{Bool, true, false}
 use mathlib.Core.List.{List, [], ◌∷◌}
 use Prim.Native.Nat.{ℕ, zero, suc, ◌≤◌}
 use native.Mathlib.Omega.{arith}
-use Rattle.meaning.specs.Answers.{number, start_number, feed_numbers, stack_numbers}
-use Rattle.meaning.specs.Basics.{nothing, just}
+use Rattle.std.specs.Prelude.{Ok, Err, if◌then◌else◌, None, Some}
+use Rattle.meaning.specs.Answers.{StartAnswer, FeedAnswer, QuestionAnswer, StackAnswer, number, start_number, feed_numbers, stack_numbers, done, not_taken}
 use Rattle.meaning.specs.Calls.{State}
 use Rattle.meaning.specs.TableFile.{table_of}
 use Rattle.meaning.specs.declared.Entry.{Entry as SeenEntry}
 use Rattle.meaning.specs.declared.ErrorRecord.{ErrorRecord}
-use Rattle.meaning.specs.declared.FeedAnswer.{FeedAnswer}
-use Rattle.meaning.specs.declared.FeedAnswer.TheVariants as fed
 use Rattle.meaning.specs.declared.FeedNumbers.{FeedNumbers}
-use Rattle.meaning.specs.declared.QuestionAnswer.{QuestionAnswer}
 use Rattle.meaning.specs.declared.Refusal.{Refusal}
 use Rattle.meaning.specs.declared.Refusal.TheVariants.{WrongLength, WrongTable, WrongState, Consumed, WrongArgument, ReachesStart, NoGoto, TooHigh, ChainTooLong, WalkTooLong, TooManyReadings}
-use Rattle.meaning.specs.declared.StackAnswer.{StackAnswer}
-use Rattle.meaning.specs.declared.StackAnswer.TheVariants as stack
 use Rattle.meaning.specs.declared.StackNumbers.{StackNumbers}
-use Rattle.meaning.specs.declared.StartAnswer.{StartAnswer}
-use Rattle.meaning.specs.declared.StartAnswer.TheVariants as start
 use Rattle.meaning.specs.declared.Term.{Term}
 use Rattle.state.specs.Readings.{readings_of}
 use Rattle.promises.specs.Buffers.{state_for}
@@ -58,26 +51,35 @@ refused_back done last f WalkTooLong = refl
 refused_back done last f TooManyReadings = refl
 
 abbrev start_of : ℕ → StartAnswer
-start_of n = by_number start.Done start.Done start.Refused n
+start_of n = by_number (Ok tt) (Ok tt) Err n
 
 start_back : (r : StartAnswer) → start_of (start_number r) ≡ r
-start_back start.Done = refl
-start_back (start.Refused k) = refused_back start.Done start.Done start.Refused k
+start_back (Ok _) = refl
+start_back (Err k) = refused_back (Ok tt) (Ok tt) Err k
+
+abbrev fed : Bool → FeedNumbers → FeedAnswer
+fed taken m = Ok (record { taken = taken; errors = m.errors; walked = m.walked })
 
 abbrev feed_of : FeedNumbers → FeedAnswer
-feed_of m = by_number (fed.Done m.errors m.walked) (fed.NotTaken m.errors m.walked) fed.Refused m.answer
+feed_of m = by_number (fed true m) (fed false m) Err m.answer
 
 feed_back : (r : FeedAnswer) → feed_of (feed_numbers r) ≡ r
-feed_back (fed.Done errors walked) = refl
-feed_back (fed.NotTaken errors walked) = refl
-feed_back (fed.Refused k) = refused_back (fed.Done 0 0) (fed.NotTaken 0 0) fed.Refused k
+feed_back (Ok f) = at f.taken
+  where
+    at : (taken : Bool) → feed_of (record { answer = (if taken then done else not_taken); errors = f.errors; walked = f.walked }) ≡ Ok (record f { taken = taken })
+    at true = refl
+    at false = refl
+feed_back (Err k) = refused_back (fed true none) (fed false none) Err k
+  where
+    none : FeedNumbers
+    none = record { answer = number k; errors = 0; walked = 0 }
 
 abbrev stack_of : StackNumbers → StackAnswer
-stack_of m = by_number (stack.Read m.height m.mark) (stack.Read m.height m.mark) stack.Refused m.answer
+stack_of m = by_number (Ok (record { height = m.height; mark = m.mark })) (Ok (record { height = m.height; mark = m.mark })) Err m.answer
 
 stack_back : (r : StackAnswer) → stack_of (stack_numbers r) ≡ r
-stack_back (stack.Read height mark) = refl
-stack_back (stack.Refused k) = refused_back (stack.Read 0 0) (stack.Read 0 0) stack.Refused k
+stack_back (Ok s) = refl
+stack_back (Err k) = refused_back (Ok (record { height = 0; mark = 0 })) (Ok (record { height = 0; mark = 0 })) Err k
 
 -- So an answer is known by its numbers.
 pub start_known : (r q : StartAnswer) → start_number r ≡ start_number q → r ≡ q
@@ -111,10 +113,10 @@ stack_determined table state i entries r q entries₁ entries₂ a b =
 
 -- Readings that are the same but for identities look the same.
 same_plain : (s s' : State) → SameState s s' → plain_state s ≡ plain_state s'
-same_plain nothing nothing h = refl
-same_plain nothing (just rs) h = absurd h
-same_plain (just rs) nothing h = absurd h
-same_plain (just rs) (just rs') h = ap {B = State} just (sym (renamed_plain rs rs' h))
+same_plain None None h = refl
+same_plain None (Some rs) h = absurd h
+same_plain (Some rs) None h = absurd h
+same_plain (Some rs) (Some rs') h = ap {B = State} Some (sym (renamed_plain rs rs' h))
 
 module _ (table state work : List ℕ) (x : Term) (errors : List ErrorRecord) (r q : FeedAnswer) (state₁ work₁ state₂ work₂ : List ℕ) (errors₁ errors₂ : List ErrorRecord)
     (a : FeedPromise table state work x errors r state₁ work₁ errors₁) (b : FeedPromise table state work x errors q state₂ work₂ errors₂) where
@@ -134,7 +136,7 @@ module _ (table state work : List ℕ) (x : Term) (errors : List ErrorRecord) (r
       let u = never_wrong_state.feed_leaves table state work x errors r state₁ work₁ errors₁ a (λ z. h (z.0, omega arith)) in
       let v = never_wrong_state.feed_leaves table state work x errors q state₂ work₂ errors₂ b (λ z. k (z.0, omega arith)) in
       equal_but_cells (table_of table).counts.states state state₁ state₂ u v (a.leaves.compact h) (b.leaves.compact k) a.leaves.spared b.leaves.spared
-      (subst (λ (s : State). SameState s (just (readings_of state₂))) (fits_found table state₁ u) (subst (SameState (state_for table state₁)) (fits_found table state₂ v) same_states))
+      (subst (λ (s : State). SameState s (Some (readings_of state₂))) (fits_found table state₁ u) (subst (SameState (state_for table state₁)) (fits_found table state₂ v) same_states))
 
   pub feed_determined : SameOutcome table r q state₁ state₂ work₁ work₂ errors₁ errors₂
   feed_determined =

@@ -9,8 +9,8 @@ use lib.ListN.{length, get_or, drop}
 use native.Mathlib.Omega.{arith}
 use Rattle.meaning.specs.Answers.{number}
 use Rattle.meaning.specs.Applying.{Applied, apply, joined, nothing_applied, one_result}
-use Rattle.meaning.specs.Basics.{both, either, Maybe, nothing, just, is_nil}
-use Rattle.std.specs.Prelude.{if◌then◌else◌}
+use Rattle.meaning.specs.Basics.{both, either, is_nil}
+use Rattle.std.specs.Prelude.{if◌then◌else◌, Option, None, Some}
 use Rattle.meaning.specs.Chains.{record_at}
 use Rattle.meaning.specs.Feeding.{Planned, no_plan, plans, add_reading, add_plan, plan_all, apply_all, some_took, none_took, First, refuses, settles, must_recover, settle, first_of, first, finish, feed}
 use Rattle.meaning.specs.Outcome.{Fed}
@@ -37,14 +37,14 @@ if_late : (b : Bool) (v w : Walked) → Late v → Late w → Late (if b then v 
 if_late true v w h g = h
 if_late false v w h g = g
 
-goto_late : (m : Maybe ℕ) (f : ℕ → Walked) → ((to : ℕ) → Late (f to)) → Late (or_no_goto m f)
-goto_late nothing f h = (omega arith, omega arith)
-goto_late (just to) f h = h to
+goto_late : (m : Option ℕ) (f : ℕ → Walked) → ((to : ℕ) → Late (f to)) → Late (or_no_goto m f)
+goto_late None f h = (omega arith, omega arith)
+goto_late (Some to) f h = h to
 
-end_late : (room : ℕ) (sh : Maybe ℕ) (n c : ℕ) → Late (end_chain room sh n c)
+end_late : (room : ℕ) (sh : Option ℕ) (n c : ℕ) → Late (end_chain room sh n c)
 unfolding end_chain
-end_late room nothing n c = tt
-end_late room (just to) n c = if_late (ltb c room) (walked (shift (just to)) n (c + 1)) (refused TooManyReadings) tt (omega arith, omega arith)
+end_late room None n c = tt
+end_late room (Some to) n c = if_late (ltb c room) (walked (shift (Some to)) n (c + 1)) (refused TooManyReadings) tt (omega arith, omega arith)
 
 then_late : (v : Walked) (f : Walk → ℕ → ℕ → Walked) → Late v → ((w : Walk) (n c : ℕ) → Late (f w n c)) → Late (and_then v f)
 then_late (refused k) f h g = h
@@ -62,7 +62,7 @@ reduction_late t q st left n go h =
 abbrev AllLate : (List ℕ → ℕ → ℕ → Walked) → Type 0
 AllLate deeper = (st : List ℕ) (n c : ℕ) → Late (deeper st n c)
 
-rules_late : (t : Table) (room left : ℕ) (deeper : List ℕ → ℕ → ℕ → Walked) → AllLate deeper → (sh : Maybe ℕ) (st ks : List ℕ) (n c : ℕ) → Late (walk_rules t room left deeper sh st ks n c)
+rules_late : (t : Table) (room left : ℕ) (deeper : List ℕ → ℕ → ℕ → Walked) → AllLate deeper → (sh : Option ℕ) (st ks : List ℕ) (n c : ℕ) → Late (walk_rules t room left deeper sh st ks n c)
 unfolding walk_rules
 rules_late t room left deeper h sh st [] n c = end_late room sh n c
 rules_late t room left deeper h sh st (k ∷ ks) n c =

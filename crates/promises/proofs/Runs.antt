@@ -9,8 +9,8 @@ use lib.Seq.{take-append_seam, drop-nil}
 use borrow.Author.Tests.{ltb-true}
 use Rattle.meaning.specs.Answers.{feed_numbers}
 use Rattle.meaning.specs.Applying.{act_on, span_start, reduced, shifted, refused_action, unplanned, apply}
-use Rattle.meaning.specs.Basics.{Maybe, both, nothing, just, is_nil, every, AllOf, find}
-use Rattle.std.specs.Prelude.{if◌then◌else◌}
+use Rattle.meaning.specs.Basics.{both, is_nil, every, AllOf, find}
+use Rattle.std.specs.Prelude.{if◌then◌else◌, Option, None, Some}
 use Rattle.meaning.specs.Bounds.{max_births}
 use Rattle.meaning.specs.Bytes.{u16_at, u32_at}
 use Rattle.meaning.specs.Calls.{State, check_state, StartCall, start_call, wrong_class, wrong_term, FeedCall, feed_refused, feed_ended, feed_right, feed_call}
@@ -47,17 +47,17 @@ use Rattle.promises.proofs.Steps.{OfAll, fed_onward, left_onward}
 -- Identities below n, as a claim and as a test.
 
 abbrev Below : ℕ → State → Type 0
-Below n nothing = Unit {0}
-Below n (just rs) = OfAll (λ a. a < n) rs
+Below n None = Unit {0}
+Below n (Some rs) = OfAll (λ a. a < n) rs
 
 unfoldable pub below : ℕ → State → Bool
-below n nothing = true
-below n (just rs) = every (λ (r : Reading). every (λ (e : Entry). ltb e.born n) r.stack) rs
+below n None = true
+below n (Some rs) = every (λ (r : Reading). every (λ (e : Entry). ltb e.born n) r.stack) rs
 
 below_claim : (n : ℕ) (s : State) → below n s ≡ true → Below n s
 unfolding below
-below_claim n nothing h = tt
-below_claim n (just rs) h = readings rs h
+below_claim n None h = tt
+below_claim n (Some rs) h = readings rs h
   where
     entries : (s : List Entry) → every (λ (e : Entry). ltb e.born n) s ≡ true → AllOf (λ (e : Entry). e.born < n) s
     entries [] h = tt
@@ -72,8 +72,8 @@ below_used : (table state : List ℕ) → Below (used_of state) (state_for table
 below_used table state = at (state_for table state) refl
   where
     at : (s : State) → state_for table state ≡ s → Below (used_of state) s
-    at nothing e = tt
-    at (just rs) e = (found_holds table state rs e).facts.owned
+    at None e = tt
+    at (Some rs) e = (found_holds table state rs e).facts.owned
 
 -- What is seen of states that are the same but for identities.
 
@@ -89,10 +89,10 @@ seen_readings ρ (r ∷ rs) =
     λ i. record { mark = r.mark; entries = reverse (first i) } ∷ rest i
 
 seen_same : (s s' : State) → SameState s s' → seen_state s' ≡ seen_state s
-seen_same nothing nothing h = refl
-seen_same nothing (just rs) h = absurd h
-seen_same (just rs) nothing h = absurd h
-seen_same (just rs) (just rs') h = ap {B = Maybe (List SeenReading)} just (ap (map seen_reading) h.same ∙ seen_readings h.rename rs)
+seen_same None None h = refl
+seen_same None (Some rs) h = absurd h
+seen_same (Some rs) None h = absurd h
+seen_same (Some rs) (Some rs') h = ap {B = Option (List SeenReading)} Some (ap (map seen_reading) h.same ∙ seen_readings h.rename rs)
 
 -- One feed, from the definition's readings and from a buffer's.
 
@@ -110,7 +110,7 @@ module _ (table : List ℕ) (ok : table_ok table ≡ true) (x : Term) where
   unfolding feed_call feed_right
   call_is s errors n = ap (λ (b : Bool). if not b then feed_refused s errors WrongTable else past s errors n) ok
 
-  ended : (rs rs' : List Reading) (errors : List ErrorRecord) (n m : ℕ) → Below n (just rs) → Below m (just rs') → Renamed rs rs' →
+  ended : (rs rs' : List Reading) (errors : List ErrorRecord) (n m : ℕ) → Below n (Some rs) → Below m (Some rs') → Renamed rs rs' →
       SameCall (feed_ended [] (feed (table_of table) x rs n)) (feed_ended errors (feed (table_of table) x rs' m))
   ended rs rs' errors n m a b h =
       let f = feed (table_of table) x rs n in
@@ -125,14 +125,14 @@ module _ (table : List ℕ) (ok : table_ok table ≡ true) (x : Term) where
       }
 
   past_same : (s s' : State) (errors : List ErrorRecord) (n m : ℕ) → Below n s → Below m s' → SameState s s' → SameCall (past s [] n) (past s' errors m)
-  past_same nothing nothing errors n m a b h = record { says = refl; states = tt; errors = refl }
-  past_same nothing (just rs) errors n m a b h = absurd h
-  past_same (just rs) nothing errors n m a b h = absurd h
-  past_same (just rs) (just rs') errors n m a b h =
-      subst (λ (c : Bool). SameCall (past (just rs) [] n) (goes_by true table (just rs') x errors m c (wrong_term (table_of table).counts.classes x) (table_of table) rs')) (sym (nil_map (ren_reading h.rename) rs) ∙ sym (ap is_nil h.same))
+  past_same None None errors n m a b h = record { says = refl; states = tt; errors = refl }
+  past_same None (Some rs) errors n m a b h = absurd h
+  past_same (Some rs) None errors n m a b h = absurd h
+  past_same (Some rs) (Some rs') errors n m a b h =
+      subst (λ (c : Bool). SameCall (past (Some rs) [] n) (goes_by true table (Some rs') x errors m c (wrong_term (table_of table).counts.classes x) (table_of table) rs')) (sym (nil_map (ren_reading h.rename) rs) ∙ sym (ap is_nil h.same))
       (at (is_nil rs) (wrong_term (table_of table).counts.classes x))
     where
-      at : (c d : Bool) → SameCall (goes_by true table (just rs) x [] n c d (table_of table) rs) (goes_by true table (just rs') x errors m c d (table_of table) rs')
+      at : (c d : Bool) → SameCall (goes_by true table (Some rs) x [] n c d (table_of table) rs) (goes_by true table (Some rs') x errors m c d (table_of table) rs')
       at true d = record { says = refl; states = h; errors = refl }
       at false true = record { says = refl; states = h; errors = refl }
       at false false = ended rs rs' errors n m a b h
@@ -181,7 +181,7 @@ fresh_all table s [] n = true
 fresh_all table s (x ∷ more) n = both (below n s) (fresh_all table (feed_call true table s x [] n).state more (n + max_births))
 
 unfoldable pub ready : Run → Bool
-ready r = both (table_ok r.table) (fresh_all r.table (start_call true r.table nothing 0).state r.terms 1)
+ready r = both (table_ok r.table) (fresh_all r.table (start_call true r.table None 0).state r.terms 1)
 
 feeds_shown : (table : List ℕ) → table_ok table ≡ true → (xs : List Term) (cs : List Feeding) (s : State) (n : ℕ) (state : List ℕ) (last last' : Outcome) → length state ≡ state_len →
     SameState s (state_for table state) → fresh_all table s xs n ≡ true → last ≡ last' → AllMeet table state xs cs → last_seen table last cs ≡ feed_all table s xs n last'
@@ -195,9 +195,9 @@ feeds_shown table ok (x ∷ xs) (c ∷ cs) s n state last last' l h f e k =
     g.shows k.1
 
 -- A start under a right table does not depend on what the buffer held.
-start_is : (table : List ℕ) → table_ok table ≡ true → (s : State) → start_call true table s 0 ≡ record { answer = 0; state = just (start_reading (table_of table) 0 ∷ []) }
+start_is : (table : List ℕ) → table_ok table ≡ true → (s : State) → start_call true table s 0 ≡ record { answer = 0; state = Some (start_reading (table_of table) 0 ∷ []) }
 unfolding start_call
-start_is table ok s = ap {B = StartCall} (λ (b : Bool). if not b then record { answer = 2; state = s } else record { answer = 0; state = just (start_reading (table_of table) 0 ∷ []) }) ok
+start_is table ok s = ap {B = StartCall} (λ (b : Bool). if not b then record { answer = 2; state = s } else record { answer = 0; state = Some (start_reading (table_of table) 0 ∷ []) }) ok
 
 -- The calls of a ready run show what its definition shows.
 pub run_shown : (run : Run) → ready run ≡ true → (c : Calls run) → seen_of run c ≡ outcome run
@@ -212,7 +212,7 @@ run_shown run f c =
     table = run.table
 
     d : StartCall
-    d = start_call true table nothing 0
+    d = start_call true table None 0
 
     ok : table_ok table ≡ true
     ok = both_left (table_ok table) (fresh_all table d.state run.terms 1) f
@@ -220,7 +220,7 @@ run_shown run f c =
     same : start_on table c.state c.work ≡ d
     same =
         ap (λ (b : Bool). start_call b table (state_for table c.state) 0) (long_lengths c.state c.work c.state_long c.work_long)
-        ∙ start_is table ok (state_for table c.state) ∙ sym (start_is table ok nothing)
+        ∙ start_is table ok (state_for table c.state) ∙ sym (start_is table ok None)
 
     state_is : state_for table c.state' ≡ d.state
     state_is = c.start.leaves.readings ∙ ap (λ (e : StartCall). e.state) same

@@ -4,8 +4,7 @@ use mathlib.Core.Path.{◌≡◌, refl, sym, ◌∙◌, subst}
 use mathlib.Core.Bool.{Bool, true, false}
 use mathlib.Core.List.{List, [], ◌∷◌, map}
 use lib.ListN.{length}
-use Rattle.meaning.specs.Basics.{nothing, just}
-use Rattle.std.specs.Prelude.{if◌then◌else◌}
+use Rattle.std.specs.Prelude.{if◌then◌else◌, None, Some}
 use Rattle.meaning.specs.Identities.{ren_entry, ren_reading}
 use Rattle.meaning.specs.Readings.{Entry, Reading}
 use Rattle.meaning.specs.TableFile.{table_of}
@@ -40,7 +39,7 @@ module _ (m : ℕ) (s t : List ℕ) (u : valid_state m s ≡ true) (v : valid_st
   valid_same : (n : ℕ) → SameState (state_of n s) (state_of n t)
   valid_same n = at (valid_state n s) refl (valid_state n t) refl
     where
-      at : (b : Bool) → valid_state n s ≡ b → (c : Bool) → valid_state n t ≡ c → SameState (if b then just (readings_of s) else nothing) (if c then just (readings_of t) else nothing)
+      at : (b : Bool) → valid_state n s ≡ b → (c : Bool) → valid_state n t ≡ c → SameState (if b then Some (readings_of s) else None) (if c then Some (readings_of t) else None)
       at true d true e = h
       at true d false e = no_false (sym e ∙ valid_too m s t v h n d)
       at false d true e = no_false (sym d ∙ valid_too m t s u (renamed_back (readings_of s) (readings_of t) h) n e)

@@ -8,7 +8,7 @@ use mathlib.Core.Logic.{◌⊎◌, inl, inr}
 use lib.Dec.{eqb, leb}
 use lib.ListN.{length}
 use borrow.Author.Tests.{eqb-true, leb-true, leb-false}
-use Rattle.meaning.specs.Answers.{number, start_number, feed_numbers}
+use Rattle.meaning.specs.Answers.{StartAnswer, QuestionAnswer, number, start_number, feed_numbers}
 use Rattle.meaning.specs.Basics.{both}
 use Rattle.meaning.specs.Calls.{State, StartCall, start_call, feed_call, StackCall}
 use Rattle.meaning.specs.Limits.{max_height, max_errors}
@@ -17,8 +17,6 @@ use Rattle.meaning.specs.TableFile.{table_of}
 use Rattle.meaning.specs.declared.Entry.{Entry as SeenEntry}
 use Rattle.meaning.specs.declared.ErrorRecord.{ErrorRecord}
 use Rattle.meaning.specs.declared.FeedNumbers.{FeedNumbers}
-use Rattle.meaning.specs.declared.QuestionAnswer.{QuestionAnswer}
-use Rattle.meaning.specs.declared.StartAnswer.{StartAnswer}
 use Rattle.meaning.specs.declared.Term.{Term}
 use Rattle.meaning.proofs.Booleans.{both_left}
 use Rattle.meaning.proofs.Settled.{number_range}

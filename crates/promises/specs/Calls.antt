@@ -1,17 +1,12 @@
 -- The promise of each call: one record, which determines the answer and what the lent bytes and lists hold afterwards.
-use Rattle.std.specs.Prelude.{◌≡◌, Bool, true, List, map, ℕ, ◌+◌, ◌-◌, ◌*◌, ◌≤◌, length}
-use Rattle.meaning.specs.Answers.{done, start_number, feed_numbers, stack_numbers}
-use Rattle.meaning.specs.Basics.{nothing, just}
+use Rattle.std.specs.Prelude.{◌≡◌, Bool, true, List, map, ℕ, ◌+◌, ◌-◌, ◌*◌, ◌≤◌, length, None, Some}
+use Rattle.meaning.specs.Answers.{StartAnswer, FeedAnswer, QuestionAnswer, StackAnswer, done, start_number, feed_numbers, stack_numbers}
 use Rattle.meaning.specs.Calls.{State, StartCall, start_call, FeedCall, feed_call, takes_call, can_end_call, can_recover_call, StackCall, stack_call}
 use Rattle.meaning.specs.Identities.{ren_reading}
 use Rattle.meaning.specs.Readings.{Reading, held_by}
 use Rattle.meaning.specs.TableFile.{table_of, state_no, start_state}
 use Rattle.meaning.specs.declared.Entry.{Entry as SeenEntry}
 use Rattle.meaning.specs.declared.ErrorRecord.{ErrorRecord}
-use Rattle.meaning.specs.declared.FeedAnswer.{FeedAnswer}
-use Rattle.meaning.specs.declared.QuestionAnswer.{QuestionAnswer}
-use Rattle.meaning.specs.declared.StackAnswer.{StackAnswer}
-use Rattle.meaning.specs.declared.StartAnswer.{StartAnswer}
 use Rattle.meaning.specs.declared.Term.{Term}
 use Rattle.numbers.specs.Writing.{Agree}
 use Rattle.cells.specs.Pool.{cell_size}
@@ -65,10 +60,10 @@ pub record Renamed (rs rs' : List Reading) : Type 0 where
   pub apart : (a b : ℕ) → held_by rs a ≡ true → held_by rs b ≡ true → rename a ≡ rename b → a ≡ b
 
 abbrev pub SameState : State → State → Type 0
-SameState nothing nothing = Unit {0}
-SameState nothing (just rs) = ⊥
-SameState (just rs) nothing = ⊥
-SameState (just rs) (just rs') = Renamed rs rs'
+SameState None None = Unit {0}
+SameState None (Some rs) = ⊥
+SameState (Some rs) None = ⊥
+SameState (Some rs) (Some rs') = Renamed rs rs'
 
 -- The cells that are not in use and the slots beyond the count keep their bytes.
 pub record Spared (state state' : List ℕ) : Type 0 where

@@ -1,7 +1,6 @@
 -- What is claimed to follow from the promises alone, as definitions. Theorems: proofs/, each named here.
-use Rattle.std.specs.Prelude.{◌≡◌, Bool, true, false, List, map, ℕ, ◌≤◌, length, take, drop}
-use Rattle.meaning.specs.Answers.{done, start_number, feed_numbers, question_numbers, stack_numbers}
-use Rattle.meaning.specs.Basics.{nothing, just}
+use Rattle.std.specs.Prelude.{◌≡◌, Bool, true, false, List, map, ℕ, ◌≤◌, length, take, drop, None, Some}
+use Rattle.meaning.specs.Answers.{StartAnswer, FeedAnswer, QuestionAnswer, StackAnswer, done, start_number, feed_numbers, question_numbers, stack_numbers}
 use Rattle.meaning.specs.Bounds.{max_walked_by_feed}
 use Rattle.meaning.specs.Calls.{State}
 use Rattle.meaning.specs.Demand3.{Same, Alike, ByChains}
@@ -12,10 +11,6 @@ use Rattle.meaning.specs.Readings.{plain}
 use Rattle.meaning.specs.TableFile.{table_of}
 use Rattle.meaning.specs.declared.Entry.{Entry as SeenEntry}
 use Rattle.meaning.specs.declared.ErrorRecord.{ErrorRecord}
-use Rattle.meaning.specs.declared.FeedAnswer.{FeedAnswer}
-use Rattle.meaning.specs.declared.QuestionAnswer.{QuestionAnswer}
-use Rattle.meaning.specs.declared.StackAnswer.{StackAnswer}
-use Rattle.meaning.specs.declared.StartAnswer.{StartAnswer}
 use Rattle.meaning.specs.declared.Term.{Term}
 use Rattle.numbers.specs.Zeros.{zeros}
 use Rattle.state.specs.Check.{valid_state}
@@ -32,8 +27,8 @@ Refusing n = (1 ≤ n) × (n ≤ 11)
 
 -- The readings of a state in their order, without identities.
 abbrev pub plain_state : State → State
-plain_state nothing = nothing
-plain_state (just rs) = just (map plain rs)
+plain_state None = None
+plain_state (Some rs) = Some (map plain rs)
 
 -- Two outcomes of one feed are equal but for which cell holds which entry, in nothing else; where the feed is refused, to the last byte.
 pub record SameOutcome (table : List ℕ) (r q : FeedAnswer) (state₁ state₂ work₁ work₂ : List ℕ) (errors₁ errors₂ : List ErrorRecord) : Type 0 where

@@ -1,12 +1,10 @@
 -- The runs with known outcome as sequences of calls: what it is that calls make a run, what is seen of the last one, and the claim. Theorem: proofs/Runs.
 use Rattle.std.specs.Prelude.{◌≡◌, List, [], ◌∷◌, ℕ, length, take}
-use Rattle.meaning.specs.Answers.{start_number, feed_numbers}
+use Rattle.meaning.specs.Answers.{StartAnswer, FeedAnswer, start_number, feed_numbers}
 use Rattle.meaning.specs.Basics.{AllOf}
 use Rattle.meaning.specs.KnownRuns.{Outcome, Run, seen_state, known_runs}
 use Rattle.meaning.specs.Limits.{max_errors}
 use Rattle.meaning.specs.declared.ErrorRecord.{ErrorRecord}
-use Rattle.meaning.specs.declared.FeedAnswer.{FeedAnswer}
-use Rattle.meaning.specs.declared.StartAnswer.{StartAnswer}
 use Rattle.meaning.specs.declared.Term.{Term}
 use Rattle.state.specs.Layout.{state_len, work_len}
 use Rattle.promises.specs.Buffers.{state_for}

@@ -1,12 +1,8 @@
 -- Runs of calls of any kinds: one caller, on two states that are the same but for cells, gets the same replies at every call, and the states stay the same. Theorem: proofs/Sequences.
 use Rattle.std.specs.Prelude.{◌≡◌, List, ℕ, length}
-use Rattle.meaning.specs.Answers.{done, start_number}
+use Rattle.meaning.specs.Answers.{StartAnswer, FeedAnswer, QuestionAnswer, StackAnswer, done, start_number}
 use Rattle.meaning.specs.declared.Entry.{Entry as SeenEntry}
 use Rattle.meaning.specs.declared.ErrorRecord.{ErrorRecord}
-use Rattle.meaning.specs.declared.FeedAnswer.{FeedAnswer}
-use Rattle.meaning.specs.declared.QuestionAnswer.{QuestionAnswer}
-use Rattle.meaning.specs.declared.StackAnswer.{StackAnswer}
-use Rattle.meaning.specs.declared.StartAnswer.{StartAnswer}
 use Rattle.meaning.specs.declared.Term.{Term}
 use Rattle.state.specs.Readings.{count_of, used_of}
 use Rattle.promises.specs.Buffers.{state_for}

@@ -2,90 +2,80 @@
 #![tactic(auto)]
 
 ghost use Rattle.std.specs.Prelude.{◌≡◌};
-ghost use Rattle.meaning.specs.TableFile.{table_of};
-ghost use Rattle.meaning.specs.Questions.{takes, can_end, some_recovers, can_recover};
-ghost use Rattle.state.specs.Layout.{readings_at};
-ghost use Rattle.state.specs.Readings.{readings_from, readings_of};
-ghost use Rattle.questions.specs.Asking.{AsksList, AsksState};
+ghost use Rattle.meaning.specs.Questions.{takes, can_end, can_recover};
+ghost use Rattle.state.specs.Readings.{readings_of};
+ghost use Rattle.questions.specs.Asking.{asked_reading, asked_of, AsksReading, AsksState};
 
-use meaning::{END_CLASS, QuestionAnswer, View};
+use meaning::{END_CLASS, QuestionAnswer};
+use state::State;
+use table::Table;
 
-// The readings of the state from the reading i on, first to last: the first yes or the first refusal decides.
-fn takes_from(
-    table: &[u8],
-    view: View,
-    state: &[u8],
-    class: u16,
+// What is asked of each stack.
+#[derive(Clone, Copy)]
+enum Question {
+    Takes(u16),
+    Recovers,
+}
+
+// The answer of the reading i.
+fn ask_reading(
+    table: &Table,
+    state: &State,
+    question: Question,
     i: u16,
-    count: u16,
     marks: &mut [u8],
 ) -> QuestionAnswer
-    requires { AsksList table.now view state.now i count marks.old }
-    ensures { result ≡ takes (table_of table.now) class (readings_from state.now readings_at i count) }
+    requires { AsksReading state.now i marks.old }
+    ensures { result ≡ asked_reading table.now question state.now i }
 {
-    if count == 0 {
-        return QuestionAnswer::No;
-    }
-    let slot = state::get_slot(state, state::READINGS_AT, i);
-    let x = cells::get_cell(state, slot.top);
-    let here = chains::can_plan_stack(table, view, state, x.height, slot.top, class, &mut *marks);
-    match here {
-        QuestionAnswer::No => takes_from(table, view, state, class, i + 1, count - 1, marks),
-        QuestionAnswer::Yes => QuestionAnswer::Yes,
-        QuestionAnswer::Refused(refusal) => QuestionAnswer::Refused(refusal),
+    let top = state::get_slot(state, state::READINGS_AT, i).top;
+    let height = cells::get_cell(state, top).height;
+    match question {
+        Question::Takes(class) => chains::can_plan_stack(table, state, height, top, class, marks),
+        Question::Recovers => chains::recovers_stack(table, state, height, top, marks),
     }
 }
 
-// The readings of the state from the reading i on, first to last.
-fn some_recovers(
-    table: &[u8],
-    view: View,
-    state: &[u8],
-    i: u16,
-    count: u16,
-    marks: &mut [u8],
-) -> QuestionAnswer
-    requires { AsksList table.now view state.now i count marks.old }
-    ensures { result ≡ some_recovers (table_of table.now) (readings_from state.now readings_at i count) }
+// The readings of the state, first to last: the first yes or the first refusal decides.
+#[tactic(auto, using(crate::proofs::Answering::asked_none, crate::proofs::Answering::asked_step, state::proofs::Valid::waiting_list))]
+fn ask(table: &Table, state: &State, question: Question, marks: &mut [u8]) -> QuestionAnswer
+    requires { AsksState table.now.counts.states state.now marks.old }
+    ensures { result ≡ asked_of table.now question (readings_of state.now) }
 {
-    if count == 0 {
-        return QuestionAnswer::No;
+    for i in 0..state::reading_count(state) {
+        if ask_reading(table, state, question, i, marks)? {
+            return Ok(true);
+        }
     }
-    let slot = state::get_slot(state, state::READINGS_AT, i);
-    let x = cells::get_cell(state, slot.top);
-    let here = chains::recovers_stack(table, view, state, x.height, slot.top, &mut *marks);
-    match here {
-        QuestionAnswer::No => some_recovers(table, view, state, i + 1, count - 1, marks),
-        QuestionAnswer::Yes => QuestionAnswer::Yes,
-        QuestionAnswer::Refused(refusal) => QuestionAnswer::Refused(refusal),
-    }
+    Ok(false)
 }
 
 // Takes this class?
-pub fn takes(table: &[u8], view: View, state: &[u8], class: u16, marks: &mut [u8]) -> QuestionAnswer
-    requires { AsksState table.now view state.now marks.old }
-    ensures { result ≡ takes (table_of table.now) class (readings_of state.now) }
+#[tactic(auto, unfolding(crate::specs::Asking::asked_of))]
+pub fn takes(table: &Table, state: &State, class: u16, marks: &mut [u8]) -> QuestionAnswer
+    requires { AsksState table.now.counts.states state.now marks.old }
+    ensures { result ≡ takes table.now class (readings_of state.now) }
 {
-    let count = state::reading_count(state);
-    takes_from(table, view, state, class, 0, count, marks)
+    ask(table, state, Question::Takes(class), marks)
 }
 
 // Can end?
-pub fn can_end(table: &[u8], view: View, state: &[u8], marks: &mut [u8]) -> QuestionAnswer
-    requires { AsksState table.now view state.now marks.old }
-    ensures { result ≡ can_end (table_of table.now) (readings_of state.now) }
+#[tactic(auto, unfolding(meaning::specs::Questions::can_end))]
+pub fn can_end(table: &Table, state: &State, marks: &mut [u8]) -> QuestionAnswer
+    requires { AsksState table.now.counts.states state.now marks.old }
+    ensures { result ≡ can_end table.now (readings_of state.now) }
 {
-    takes(table, view, state, END_CLASS, marks)
+    takes(table, state, END_CLASS, marks)
 }
 
 // Can recover?
-pub fn can_recover(table: &[u8], view: View, state: &[u8], marks: &mut [u8]) -> QuestionAnswer
-    requires { AsksState table.now view state.now marks.old }
-    ensures { result ≡ can_recover (table_of table.now) (readings_of state.now) }
+#[tactic(auto, unfolding(meaning::specs::Questions::can_recover, crate::specs::Asking::asked_of))]
+pub fn can_recover(table: &Table, state: &State, marks: &mut [u8]) -> QuestionAnswer
+    requires { AsksState table.now.counts.states state.now marks.old }
+    ensures { result ≡ can_recover table.now (readings_of state.now) }
 {
-    if view.recovers {
-        let count = state::reading_count(state);
-        return some_recovers(table, view, state, 0, count, marks);
+    if table.recovers() {
+        return ask(table, state, Question::Recovers, marks);
     }
-    QuestionAnswer::No
+    Ok(false)
 }

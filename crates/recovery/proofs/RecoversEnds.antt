@@ -9,14 +9,13 @@ use borrow.Author.Tests.{eq-eqb, ne_eqb}
 use Rattle.meaning.specs.Answers.{done, not_taken}
 use Rattle.meaning.specs.Applying.{unplanned}
 use Rattle.meaning.specs.Basics.{is_nil}
-use Rattle.std.specs.Prelude.{if◌then◌else◌}
+use Rattle.std.specs.Prelude.{if◌then◌else◌, Result, Ok, Err}
 use Rattle.meaning.specs.Outcome.{Fed as MeantFed}
 use Rattle.meaning.specs.Readings.{Reading}
 use Rattle.meaning.specs.Recovery.{Stage as Meant, came, term_taken, none_recovered, after_recovery}
-use Rattle.meaning.specs.TableFile.{Table, table_of}
+use Rattle.meaning.specs.TableFile.{Table}
 use Rattle.meaning.specs.declared.Refusal.{Refusal}
 use Rattle.meaning.specs.declared.Term.{Term}
-use Rattle.meaning.specs.declared.View.{View}
 use Rattle.state.specs.Layout.{results_at, left_at}
 use Rattle.state.specs.Readings.{readings_from, results_of}
 use Rattle.state.proofs.Lists.{length_readings}
@@ -26,14 +25,10 @@ use Rattle.taking.specs.declared.SoFar.{SoFar}
 use Rattle.feeding.specs.Ending.{Holds, EndReady, FedIs}
 use Rattle.feeding.specs.Unplanned.{UnplannedDone}
 use Rattle.feeding.specs.declared.Ended.{Ended}
-use Rattle.feeding.specs.declared.Fed.{Fed}
-use Rattle.feeding.specs.declared.Fed.TheVariants as fed
 use Rattle.feeding.proofs.Endings.{area_after}
-use Rattle.recovery.specs.Stages.{Stops, Comes, StageIs}
+use Rattle.recovery.specs.Stages.{Comes, StageIs}
 use Rattle.recovery.specs.Again.{AgainReady, AgainDone}
 use Rattle.recovery.specs.Recovering.{SecondReady, NoneDone, second_stage, TermDone, LookedDone}
-use Rattle.recovery.specs.declared.Stage.{Stage}
-use Rattle.recovery.specs.declared.Stage.TheVariants.{Stopped, Came}
 
 -- whether a list has readings, by its count
 nil_is : (w : List ℕ) (at k : ℕ) → is_nil (results_of w at k) ≡ eqb k 0
@@ -65,12 +60,11 @@ second_of so = record { counts = record { cells = so.counts.cells; results = 0; 
 abbrev ended : SoFar → Ended
 ended so = record { taken = not (eqb so.counts.results 0); list = 41920; counts = so.counts; walked = so.walked }
 
-module _ (s : List ℕ) (view : View) (w : List ℕ) (so : SoFar) (y : SecondReady s view w so) where
-  pub second_begins : AgainReady s view w so.counts.results (second_of so)
+module _ (w : List ℕ) (so : SoFar) (y : SecondReady w so) where
+  pub second_begins : AgainReady w so.counts.results (second_of so)
   second_begins =
       let far = y.walked in let few = y.area.results in let errors = y.few_errors in
       record {
-        belongs = y.belongs;
         area = record { long = y.area.long; low = omega arith; high = omega arith; cells = y.area.cells; results = omega arith; errors = y.area.errors; stand = λ j p q. absurd (omega arith) };
         few = few;
         stand = y.area.stand;
@@ -85,22 +79,20 @@ module _ (s : List ℕ) (view : View) (w : List ℕ) (so : SoFar) (y : SecondRea
         walked = omega arith;
       }
 
-  module _ (x : Term) (w' : List ℕ) (q : Stage) (h : AgainDone (table_of s) x w so.counts.results (second_of so) w' q) where
+  module _ (t : Table) (x : Term) (w' : List ℕ) where
     abbrev meant : Meant
-    meant = second_stage (table_of s) x w so
+    meant = second_stage t x w so
 
-    stage_is : StageIs left_at w (second_of so) (1024 * so.counts.results) meant w' q
+    stage_is : (q : Result SoFar Refusal) → AgainDone t x w so.counts.results (second_of so) w' q → StageIs left_at w (second_of so) (1024 * so.counts.results) meant w' q
     unfolding readings_from
-    stage_is = h
+    stage_is q h = h
 
-    pub second_stopped : (k : Refusal) → q ≡ Stopped k → TermDone (table_of s) x w so w' (fed.Refused k)
-    second_stopped k e rs next =
-        let g : Stops w meant k w' = subst (StageIs left_at w (second_of so) (1024 * so.counts.results) meant w') e stage_is in
-        ap (term_taken rs next) g.is
+    pub second_stopped : (k : Refusal) → AgainDone t x w so.counts.results (second_of so) w' (Err k) → TermDone t x w so w' (Err k)
+    second_stopped k h rs next = ap (term_taken rs next) (stage_is (Err k) h)
 
-    pub second_came : (so' : SoFar) → q ≡ Came so' → TermDone (table_of s) x w so w' (fed.Ended (ended so'))
-    second_came so' e rs next =
-        let g : Comes left_at w (second_of so) (1024 * so.counts.results) meant w' so' = subst (StageIs left_at w (second_of so) (1024 * so.counts.results) meant w') e stage_is in
+    pub second_came : (so' : SoFar) → AgainDone t x w so.counts.results (second_of so) w' (Ok so') → TermDone t x w so w' (Ok (ended so'))
+    second_came so' h rs next =
+        let g : Comes left_at w (second_of so) (1024 * so.counts.results) meant w' so' = stage_is (Ok so') h in
         let far = g.few in let all = y.walked in let few = y.area.results in
         subst (λ (m : Meant). Holds w' (ended so') (term_taken rs next m)) (sym g.is)
         (record { answer = answer_is; readings = refl; errors = refl; walked = refl; few = omega arith; area = g.further.area })
@@ -118,8 +110,11 @@ module _ (t : Table) (x : Term) (w : List ℕ) (so : SoFar) (left : ℕ) where
       (if eqb so.counts.results 0 then none_recovered rs (made_of results_at w so.counts) so.walked else term_taken rs next (second_stage t x w so))
   by_count rs next = rw (nil_is w 41824 so.counts.results)
 
-  pub looked_none : (w' : List ℕ) (e : Ended) → so.counts.results ≡ 0 → NoneDone w so left w' e → LookedDone t x w so left w' (fed.Ended e)
+  pub looked_none : (w' : List ℕ) (e : Ended) → so.counts.results ≡ 0 → NoneDone w so left w' e → LookedDone t x w so left w' (Ok e)
   looked_none w' e z h rs next f = subst (Holds w' e) (sym (by_count rs next ∙ rw (eq-eqb so.counts.results 0 z))) (h rs f)
 
-  pub looked_some : (w' : List ℕ) (q : Fed) → (so.counts.results ≡ 0 → ⊥) → TermDone t x w so w' q → LookedDone t x w so left w' q
+  pub looked_some : (w' : List ℕ) (q : Result Ended Refusal) → (so.counts.results ≡ 0 → ⊥) → TermDone t x w so w' q → LookedDone t x w so left w' q
   looked_some w' q z h rs next f = subst (λ (m : MeantFed). FedIs m rs next w' q) (sym (by_count rs next ∙ rw (ne_eqb so.counts.results 0 z))) (h rs next)
+
+-- The two ends of `after_looking`.
+pub ruleset looked_ways = (looked_none, looked_some)

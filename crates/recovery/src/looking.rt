@@ -1,14 +1,15 @@
 // The first stage: the readings, first to last, look for a height at which the error class can be shifted.
 ghost use Rattle.std.specs.Prelude.{◌≡◌};
 ghost use Rattle.meaning.specs.Readings.{held_by};
-ghost use Rattle.meaning.specs.TableFile.{table_of};
 ghost use Rattle.actions.specs.Acting.{Pops};
-ghost use Rattle.recovery.specs.Looking.{others, empty_term, longer_term, below_top, HeldReady, OneReady, OneDone, AllReady, AllDone};
+ghost use Rattle.recovery.specs.Looking.{others, top_cell, empty_term, longer_term, below_top, HeldReady, OneReady, OneDone, AllReady, AllDone};
 
-use super::Stage;
 use actions::Top;
-use meaning::{CellNo, ERROR_CLASS, Term, View};
-use taking::{SoFar, Taking};
+use cells::Cell;
+use meaning::{CellNo, ERROR_CLASS, Refusal, Term};
+use state::{State, Work};
+use table::Table;
+use taking::{SoFar, Turn};
 
 // The readings that still wait: so many, from the reading `next` on.
 #[derive(Clone, Copy)]
@@ -17,12 +18,20 @@ struct Waiting {
     count: u16,
 }
 
+// The cell of the top entry.
+fn top_cell(work: &Work, reading: Top) -> Cell
+    requires { Pops work.now reading 0 }
+    ensures { result ≡ top_cell work.now reading }
+{
+    cells::get_cell(work, reading.cell)
+}
+
 // The error entry's term where nothing was popped: empty, at the top entry's end.
-fn empty_term(work: &[u8], reading: Top) -> Term
+fn empty_term(work: &Work, reading: Top) -> Term
     requires { Pops work.now reading 0 }
     ensures { result ≡ empty_term work.now reading }
 {
-    let x = cells::get_cell(work, reading.cell);
+    let x = top_cell(work, reading);
     Term {
         class: ERROR_CLASS,
         value: 0,
@@ -32,11 +41,11 @@ fn empty_term(work: &[u8], reading: Top) -> Term
 }
 
 // Its term after the pop of the top entry: from there on, to the same end.
-fn longer_term(work: &[u8], reading: Top, term: Term) -> Term
+fn longer_term(work: &Work, reading: Top, term: Term) -> Term
     requires { Pops work.now reading 0 }
     ensures { result ≡ longer_term work.now reading term }
 {
-    let x = cells::get_cell(work, reading.cell);
+    let x = top_cell(work, reading);
     Term {
         class: ERROR_CLASS,
         value: 0,
@@ -46,25 +55,24 @@ fn longer_term(work: &[u8], reading: Top, term: Term) -> Term
 }
 
 // What is left of the reading after that pop.
-fn below_top(work: &[u8], reading: Top) -> Top
+fn below_top(work: &Work, reading: Top) -> Top
     requires { Pops work.now reading 0 }
     ensures { result ≡ below_top work.now reading }
 {
-    let x = cells::get_cell(work, reading.cell);
-    let cell = x.parent;
+    let x = top_cell(work, reading);
     Top {
-        cell,
+        cell: x.parent,
         height: reading.height - 1,
-        mark: reading.mark,
+        ..reading
     }
 }
 
 // Whether a reading that still waits, or a result of recovery, has the entry in this cell.
-fn held(state: &[u8], work: &[u8], waiting: Waiting, so: SoFar, cell: CellNo) -> bool
+#[tactic(auto, using(crate::proofs::LookingPops::results_in))]
+fn held(state: &State, work: &Work, waiting: Waiting, so: SoFar, cell: CellNo) -> bool
     requires { HeldReady state.now work.now waiting so }
     ensures { result ≡ held_by (others state.now waiting work.now so) cell.0 }
 {
-    let counts = so.counts;
     state::held_by_others(
         state,
         waiting.next,
@@ -72,76 +80,57 @@ fn held(state: &[u8], work: &[u8], waiting: Waiting, so: SoFar, cell: CellNo) ->
         work,
         state::RESULTS_AT,
         0,
-        counts.results,
+        so.counts.results,
         cell,
     )
 }
 
 // One reading walks from its top, with the error entry's term for what was popped before.
+#[tactic(auto, using(crate::proofs::LookingOne::one_none, crate::proofs::LookingOne::one_held))]
 fn recover_one(
-    table: &[u8],
-    view: View,
-    state: &[u8],
-    work: &mut [u8],
+    table: &Table,
+    state: &State,
+    work: &mut Work,
     waiting: Waiting,
     term: Term,
     reading: Top,
     so: SoFar,
-) -> Stage
-    requires { OneReady table.now view state.now work.old waiting reading so }
-    ensures { OneDone (table_of table.now) state.now work.old waiting term reading so work.new result }
+) -> Result<SoFar, Refusal>
+    requires { OneReady state.now work.old waiting reading so }
+    ensures { OneDone table.now state.now work.old waiting term reading so work.new result }
 {
-    if reading.height == 0 {
-        return Stage::Came(so);
+    if reading.height == 0 || held(state, work, waiting, so, reading.cell) {
+        return Ok(so);
     }
-    if held(state, work, waiting, so, reading.cell) {
-        return Stage::Came(so);
-    }
-    let taken = taking::take_reading(
-        table,
-        view,
-        &mut *work,
-        state::RESULTS_AT,
-        term,
-        reading,
-        so,
-    );
-    match taken {
-        Taking::Refused(refusal) => Stage::Stopped(refusal),
-        Taking::Took(so) => Stage::Came(so),
-        Taking::Not(so) => {
+    match taking::take_reading(table, work, state::RESULTS_AT, term, reading, so)? {
+        Turn::Took(so) => Ok(so),
+        Turn::Left(so) => {
             let longer = longer_term(work, reading, term);
             let below = below_top(work, reading);
-            recover_one(table, view, state, work, waiting, longer, below, so)
+            recover_one(table, state, work, waiting, longer, below, so)
         }
     }
 }
 
-// `count` readings of the state, from the reading i on.
+// The first `count` readings of the state, first to last.
 pub fn recover_all(
-    table: &[u8],
-    view: View,
-    state: &[u8],
-    work: &mut [u8],
-    i: u16,
+    table: &Table,
+    state: &State,
+    work: &mut Work,
     count: u16,
-    so: SoFar,
-) -> Stage
-    requires { AllReady table.now view state.now work.old i count so }
-    ensures { AllDone (table_of table.now) state.now work.old i count so work.new result }
+    mut so: SoFar,
+) -> Result<SoFar, Refusal>
+    requires { AllReady state.now work.old 0 count so }
+    ensures { AllDone table.now state.now work.old 0 count so work.new result }
 {
-    if count == 0 {
-        return Stage::Came(so);
+    for i in 0..count {
+        let reading = taking::top_of(state, state::READINGS_AT, i);
+        let term = empty_term(work, reading);
+        let waiting = Waiting {
+            next: i + 1,
+            count: count - i - 1,
+        };
+        so = recover_one(table, state, work, waiting, term, reading, so)?;
     }
-    let reading = taking::top_of(state, state::READINGS_AT, i);
-    let term = empty_term(work, reading);
-    let waiting = Waiting {
-        next: i + 1,
-        count: count - 1,
-    };
-    let one = recover_one(table, view, state, &mut *work, waiting, term, reading, so);
-    match one {
-        Stage::Stopped(refusal) => Stage::Stopped(refusal),
-        Stage::Came(so) => recover_all(table, view, state, work, waiting.next, waiting.count, so),
-    }
+    Ok(so)
 }

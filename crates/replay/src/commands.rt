@@ -1,6 +1,5 @@
 // The commands of a script.
 use console::words;
-use console::words::{Behind, Number, Parsed};
 use meaning::Term;
 
 // A call on a state.
@@ -13,11 +12,22 @@ pub enum Call {
     Stack(u32),
 }
 
+impl Call {
+    pub fn name(self) -> &'static str {
+        match self {
+            Call::Term(_) => "term",
+            Call::Takes(_) => "takes",
+            Call::CanEnd => "canend",
+            Call::CanRecover => "canrecover",
+            Call::Stack(_) => "stack",
+        }
+    }
+}
+
 #[derive(Clone, Copy)]
 pub enum Command {
     Start,
     Call(Call),
-    Not,
 }
 
 // A line that gives a table: its bytes, or a file's name, from a place on.
@@ -25,84 +35,48 @@ pub enum Command {
 pub enum Source {
     Bytes(usize),
     File(usize),
-    Not,
 }
 
 // Empty lines and comments.
 pub fn skipped(line: &[u8]) -> bool {
-    if line.len() == 0 {
-        return true;
-    }
-    words::begins(line, b"#")
+    line.is_empty() || line.starts_with(b"#")
 }
 
 // A case has a name.
 pub fn is_case(line: &[u8]) -> bool {
-    match words::behind_word(line, b"case") {
-        Behind::At(at) => at < line.len(),
-        Behind::Not => false,
-    }
-}
-
-fn file_of(line: &[u8]) -> Source {
-    match words::behind_word(line, b"file") {
-        Behind::At(at) => Source::File(at),
-        Behind::Not => Source::Not,
-    }
+    words::behind_word(line, b"case").is_some_and(|at| at < line.len())
 }
 
 // The bytes of a table may be missing.
-pub fn source_of(line: &[u8]) -> Source {
-    match words::behind_word(line, b"table") {
-        Behind::At(at) => Source::Bytes(at),
-        Behind::Not => file_of(line),
+pub fn source_of(line: &[u8]) -> Option<Source> {
+    if let Some(at) = words::behind_word(line, b"table") {
+        return Some(Source::Bytes(at));
     }
-}
-
-fn term_of(line: &[u8], at: usize) -> Command {
-    match words::term_at(line, at) {
-        Parsed::Is(term) => Command::Call(Call::Term(term)),
-        Parsed::Not => Command::Not,
-    }
-}
-
-fn takes_of(line: &[u8], at: usize) -> Command {
-    match words::last_number(line, at) {
-        Number::Is { value, next: _ } => Command::Call(Call::Takes(value)),
-        Number::Not => Command::Not,
-    }
-}
-
-fn stack_of(line: &[u8], at: usize) -> Command {
-    match words::last_number(line, at) {
-        Number::Is { value, next: _ } => Command::Call(Call::Stack(value)),
-        Number::Not => Command::Not,
-    }
+    words::behind_word(line, b"file").map(Source::File)
 }
 
 // The commands without numbers.
-fn word_of(line: &[u8]) -> Command {
-    if check::same(line, b"start") {
-        return Command::Start;
+fn word_of(line: &[u8]) -> Option<Command> {
+    match line {
+        b"start" => Some(Command::Start),
+        b"canend" => Some(Command::Call(Call::CanEnd)),
+        b"canrecover" => Some(Command::Call(Call::CanRecover)),
+        _ => None,
     }
-    if check::same(line, b"canend") {
-        return Command::Call(Call::CanEnd);
-    }
-    if check::same(line, b"canrecover") {
-        return Command::Call(Call::CanRecover);
-    }
-    Command::Not
 }
 
-pub fn command_of(line: &[u8]) -> Command {
-    if let Behind::At(at) = words::behind_word(line, b"term") {
-        return term_of(line, at);
+pub fn command_of(line: &[u8]) -> Option<Command> {
+    if let Some(at) = words::behind_word(line, b"term") {
+        let term = words::term_at(line, at)?;
+        return Some(Command::Call(Call::Term(term)));
     }
-    if let Behind::At(at) = words::behind_word(line, b"takes") {
-        return takes_of(line, at);
+    if let Some(at) = words::behind_word(line, b"takes") {
+        let class = words::last_number(line, at)?;
+        return Some(Command::Call(Call::Takes(class)));
     }
-    if let Behind::At(at) = words::behind_word(line, b"stack") {
-        return stack_of(line, at);
+    if let Some(at) = words::behind_word(line, b"stack") {
+        let number = words::last_number(line, at)?;
+        return Some(Command::Call(Call::Stack(number)));
     }
     word_of(line)
 }

@@ -9,6 +9,7 @@ use borrow.Author.Tests.{lt-ltb, le-ltb, le-leb, lt-leb}
 use Rattle.cells.specs.Pool.{cell_at}
 use Rattle.cells.specs.Stacks.{linked}
 use Rattle.cells.specs.declared.Cell.{Cell}
+use Rattle.meaning.specs.Basics.{both}
 use Rattle.meaning.proofs.Booleans.{both_false}
 use Rattle.state.specs.Layout.{readings_at}
 use Rattle.state.specs.Readings.{slot_at, top_at, height_at, count_of, used_of}
@@ -47,26 +48,30 @@ module _ (cells m : ℕ) (s : List ℕ) (at i : ℕ) (r : Slot) (e : r ≡ slot_
         let high : height_at s at i ≤ 64 = rw height_is at d in
         rw (lt-ltb (top_at s at i) cells inside, lt-ltb 0 (height_at s at i) low, le-leb (height_at s at i) 64 high) (rw (e, height_is) refl)
 
-module _ (cells m : ℕ) (s : List ℕ) (at i : ℕ) where
-  pub slots_none : (k : ℕ) → k ≡ 0 → true ≡ slots_right cells m s at i k
+-- The loop's step: what is left decides.
+slots_first : (cells m : ℕ) (s : List ℕ) (at i k : ℕ) (b : Bool) → (k ≡ 0 → ⊥) → b ≡ slot_right cells m s at i →
+    both b (slots_right cells m s at (i + 1) (k - 1)) ≡ slots_right cells m s at i k
+unfolding slots_right
+slots_first cells m s at i zero b z e = absurd (z refl)
+slots_first cells m s at i (suc k) b z e = let u : suc k - 1 ≡ k = omega arith in rw (u, e)
+
+module _ (cells m : ℕ) (s : List ℕ) (at n i : ℕ) (whole : Bool) (t : slots_right cells m s at i (n - i) ≡ whole) where
+  module _ (h : i < n) (b : Bool) (e : b ≡ slot_right cells m s at i) where
+    step : both b (slots_right cells m s at (i + 1) (n - i - 1)) ≡ whole
+    step = slots_first cells m s at i (n - i) b (λ z. omega arith) e ∙ t
+
+    pub slots_bad : b ≡ false → false ≡ whole
+    slots_bad q = rw q at step
+
+    pub slots_more : b ≡ true → slots_right cells m s at (i + 1) (n - (i + 1)) ≡ whole
+    slots_more q = let u : n - (i + 1) ≡ n - i - 1 = omega arith in rw u (rw q at step)
+
+  pub slots_end : n ≤ i → true ≡ whole
   unfolding slots_right
-  slots_none k e = rw e
+  slots_end h = let u : n - i ≡ 0 = omega arith in rw u at t
 
-  pub slots_bad : (k : ℕ) (b : Bool) → b ≡ slot_right cells m s at i → (k ≡ 0 → ⊥) → b ≡ false → false ≡ slots_right cells m s at i k
-  unfolding slots_right
-  slots_bad zero b e z q = absurd (z refl)
-  slots_bad (suc k) b e z q = rw (← (sym q ∙ e))
-
-  pub slots_good : (k : ℕ) (b : Bool) → b ≡ slot_right cells m s at i → (k ≡ 0 → ⊥) → b ≡ true → slots_right cells m s at (i + 1) (k - 1) ≡ slots_right cells m s at i k
-  unfolding slots_right
-  slots_good zero b e z q = absurd (z refl)
-  slots_good (suc k) b e z q = let u : suc k - 1 ≡ k = omega arith in rw (← (sym q ∙ e), u)
-
-pub ready_first : (s : List ℕ) (cells at i k : ℕ) → (k ≡ 0 → ⊥) → SlotsReady s cells at i k → SlotReady s cells at i
-ready_first s cells at i k z y = let h = y.slots in record { room = y.room; slot = omega arith }
-
-pub ready_rest : (s : List ℕ) (cells at i k : ℕ) → (k ≡ 0 → ⊥) → SlotsReady s cells at i k → SlotsReady s cells at (i + 1) (k - 1)
-ready_rest s cells at i k z y = let h = y.slots in let f = y.few in record { room = y.room; slots = omega arith; few = omega arith }
+pub slot_ready : (s : List ℕ) (cells at n i : ℕ) → SlotsReady s cells at 0 n → i < n → SlotReady s cells at i
+slot_ready s cells at n i y h = let r = y.slots in record { room = y.room; slot = omega arith }
 
 module _ (m : ℕ) (s : List ℕ) (k : ℕ) (e : k ≡ count_of s) where
   pub valid_count : 16 < k → false ≡ valid_state m s
@@ -83,3 +88,10 @@ module _ (m : ℕ) (s : List ℕ) (k : ℕ) (e : k ≡ count_of s) where
       let few : count_of s ≤ 16 = rw e at h in
       let room : used_of s ≤ 1024 = rw g at i in
       rw (le-leb (count_of s) 16 few, le-leb (used_of s) 1024 room) (rw (e, g) refl)
+
+-- For each function of the check, its ways out and what its calls ask.
+pub ruleset slot_ways = (slot_top, slot_low, slot_high, slot_linked)
+
+pub ruleset slots_ways = (slot_ready, slots_bad, slots_more, slots_end)
+
+pub ruleset valid_ways = (valid_count, valid_used, valid_slots)

@@ -7,8 +7,8 @@ use mathlib.Core.Logic.{◌⊎◌, inl, inr}
 use mathlib.Core.List.{List, [], ◌∷◌, ◌++◌, reverse, append_assoc, append-nil}
 use lib.Dec.{ltb, T, ltb→lt}
 use Rattle.meaning.specs.Applying.{Applied, apply, joined, nothing_applied, one_result}
-use Rattle.meaning.specs.Basics.{either, is_nil, nothing, just}
-use Rattle.std.specs.Prelude.{if◌then◌else◌}
+use Rattle.meaning.specs.Basics.{either, is_nil}
+use Rattle.std.specs.Prelude.{if◌then◌else◌, None, Some}
 use Rattle.meaning.specs.Feeding.{Planned, no_plan, plans, add_reading, add_plan, plan_all, apply_all, First, refuses, settles, must_recover, some_took, none_took, settle, first_of, first, finish, feed}
 use Rattle.meaning.specs.Outcome.{Fed, refusal}
 use Rattle.meaning.specs.Readings.{Entry, Reading, states}
@@ -29,8 +29,8 @@ use Rattle.state.proofs.Births.{cell_found, born_takes, born_stays}
 -- Where no chain ends, nothing is born.
 unborn : (t : Table) (x : Term) (w : Walk) (r : Reading) (n : ℕ) → ends w ≡ false → (apply t x w r n).next ≡ n
 unfolding apply ends
-unborn t x (shift nothing) r n e = refl
-unborn t x (shift (just to)) r n e = no_false (sym e)
+unborn t x (shift None) r n e = refl
+unborn t x (shift (Some to)) r n e = no_false (sym e)
 unborn t x (reduce k to below beside) r n e = rw (either_false (ends below) (ends beside) e).0 (unborn t x beside r n (either_false (ends below) (ends beside) e).1)
 
 -- so its planning adds no chain

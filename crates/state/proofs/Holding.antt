@@ -1,8 +1,8 @@
 -- Who holds a cell: the ways out of the question, and what it asks. Assumes nothing.
-use mathlib.Core.Path.{◌≡◌, refl}
+use mathlib.Core.Path.{◌≡◌, refl, ◌∙◌}
 use mathlib.Core.Bool.{Bool, true, false}
 use mathlib.Core.List.{List, [], ◌∷◌, ◌++◌}
-use Prim.Native.Nat.{ℕ, zero, suc, ◌+◌, ◌-◌, ◌*◌, ◌≤◌}
+use Prim.Native.Nat.{ℕ, zero, suc, ◌+◌, ◌-◌, ◌*◌, ◌<◌, ◌≤◌}
 use native.Mathlib.Omega.{arith}
 use lib.ListN.{length}
 use Rattle.meaning.specs.Basics.{either}
@@ -38,27 +38,45 @@ module _ (s : List ℕ) (at i k : ℕ) (z : k ≡ 0 → ⊥) (y : ListIn s at i 
       let f = y.few in
       record { cells = y.cells; room = y.room; slots = omega arith; few = omega arith; stands = λ j a b. y.stands j (omega arith) (omega arith) }
 
--- The ways out.
-pub held_none : (s : List ℕ) (at i k c : ℕ) → k ≡ 0 → false ≡ held_by (readings_from s at i k) c
-unfolding held_by readings_from
-held_none s at i k c e = rw e
+-- The readings that are still to be looked at, where the loop has come to the reading k.
+list_from : (s : List ℕ) (at i n k : ℕ) → i ≤ k → k < i + n → ListIn s at i n → ListIn s at k (i + n - k)
+list_from s at i n k a b y =
+    let h = y.slots in
+    let f = y.few in
+    record { cells = y.cells; room = y.room; slots = omega arith; few = omega arith; stands = λ j u v. y.stands j (omega arith) (omega arith) }
 
+-- The loop's step: what is left decides.
 held_first : (s : List ℕ) (at i k c : ℕ) (b : Bool) → (k ≡ 0 → ⊥) → b ≡ holds (reading_at s at i).stack c →
     either b (held_by (readings_from s at (i + 1) (k - 1)) c) ≡ held_by (readings_from s at i k) c
 unfolding held_by readings_from
 held_first s at i zero c b z e = absurd (z refl)
 held_first s at i (suc k) c b z e = let u : suc k - 1 ≡ k = omega arith in rw (u, e)
 
-module _ (s : List ℕ) (at i k c : ℕ) (z : k ≡ 0 → ⊥) (r : Slot) (e : r ≡ slot_at s at i) (x : Cell) (f : x ≡ cell_at s r.top.0)
-    (b : Bool) (g : b ≡ holds (entries_of (cell_at s) x.height r.top.0) c) where
-  first : either b (held_by (readings_from s at (i + 1) (k - 1)) c) ≡ held_by (readings_from s at i k) c
-  first = held_first s at i k c b z (rw (f, e) at g)
+module _ (s : List ℕ) (at i n k : ℕ) (low : i ≤ k) (y : ListIn s at i n) (h : k < i + n) where
+  pub slot_room : at + slot_size * k + slot_size ≤ length s
+  slot_room = first_slot s at k (i + n - k) (λ z. omega arith) (list_from s at i n k low h y)
 
-  pub held_here : b ≡ true → true ≡ held_by (readings_from s at i k) c
-  held_here q = rw q at first
+  module _ (r : Slot) (e : r ≡ slot_at s at k) where
+    pub cell_room : cell_size * r.top.0 + cell_size ≤ length s
+    cell_room = top_room s at k (i + n - k) (λ z. omega arith) (list_from s at i n k low h y) r e
 
-  pub held_rest : b ≡ false → held_by (readings_from s at (i + 1) (k - 1)) c ≡ held_by (readings_from s at i k) c
-  held_rest q = rw q at first
+    module _ (x : Cell) (f : x ≡ cell_at s r.top.0) where
+      pub stack_room : StackIn s x.height r.top.0
+      stack_room = top_stack s at k (i + n - k) (λ z. omega arith) (list_from s at i n k low h y) r e x f
+
+      module _ (c : ℕ) (b : Bool) (g : b ≡ holds (entries_of (cell_at s) x.height r.top.0) c) (whole : Bool) (t : held_by (readings_from s at k (i + n - k)) c ≡ whole) where
+        step : either b (held_by (readings_from s at (k + 1) (i + n - k - 1)) c) ≡ whole
+        step = held_first s at k (i + n - k) c b (λ z. omega arith) (rw (f, e) at g) ∙ t
+
+        pub held_here : b ≡ true → true ≡ whole
+        held_here q = rw q at step
+
+        pub held_more : b ≡ false → held_by (readings_from s at (k + 1) (i + n - (k + 1))) c ≡ whole
+        held_more q = let u : i + n - (k + 1) ≡ i + n - k - 1 = omega arith in rw u (rw q at step)
+
+pub held_end : (s : List ℕ) (at i n k c : ℕ) (whole : Bool) → i + n ≤ k → held_by (readings_from s at k (i + n - k)) c ≡ whole → false ≡ whole
+unfolding held_by readings_from
+held_end s at i n k c whole h t = let u : i + n - k ≡ 0 = omega arith in rw u at t
 
 -- Two lists, one behind the other.
 pub held_append : (xs ys : List Reading) (c : ℕ) → held_by (xs ++ ys) c ≡ either (held_by xs c) (held_by ys c)
@@ -76,3 +94,8 @@ module _ (xs ys : List Reading) (c : ℕ) (b : Bool) (e : b ≡ held_by xs c) wh
 
   pub held_right : b ≡ false → held_by ys c ≡ held_by (xs ++ ys) c
   held_right q = rw (held_append, ← e, q)
+
+-- For each of the two functions, its ways out and what its calls ask.
+pub ruleset held_ways = (slot_room, stack_room, held_more, held_end)
+
+pub ruleset others_ways = (held_left, held_right)

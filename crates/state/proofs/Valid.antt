@@ -7,7 +7,7 @@ use native.Mathlib.Omega.{arith}
 use lib.Dec.{ltb, leb}
 use lib.ListN.{length}
 use borrow.Author.Tests.{lt-ltb, le-leb, ltb-true, leb-true}
-use Rattle.meaning.specs.Basics.{just}
+use Rattle.std.specs.Prelude.{Some}
 use Rattle.meaning.specs.Limits.{max_readings}
 use Rattle.cells.specs.Pool.{cell_at}
 use Rattle.cells.specs.Stacks.{StatesBelow}
@@ -81,7 +81,7 @@ module _ (m : ℕ) (s : List ℕ) (e : valid_state m s ≡ true) where
         owned = readings_owned (used_of s) s readings_at 0 (count_of s) all_stand;
       }
 
-  pub state_is : state_of m s ≡ just (readings_of s)
+  pub state_is : state_of m s ≡ Some (readings_of s)
   state_is = rw e
 
   -- Its readings from the reading i on, as a list in a buffer.

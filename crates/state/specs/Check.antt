@@ -1,6 +1,6 @@
 -- The layout's rules, as a test on any bytes: answer 3 where it is false. And what a state is known to be where it is true.
-use Rattle.std.specs.Prelude.{Bool, true, List, ℕ, zero, suc, ◌+◌, ◌*◌, ◌<◌, ◌≤◌, ltb, leb, length}
-use Rattle.meaning.specs.Basics.{both, just, nothing, AllOf}
+use Rattle.std.specs.Prelude.{Bool, true, List, ℕ, zero, suc, ◌+◌, ◌*◌, ◌<◌, ◌≤◌, ltb, leb, length, Some, None}
+use Rattle.meaning.specs.Basics.{both, AllOf}
 use Rattle.std.specs.Prelude.{if◌then◌else◌}
 use Rattle.meaning.specs.Bounds.{Standing}
 use Rattle.meaning.specs.Calls.{State}
@@ -27,7 +27,7 @@ valid_state m s = both (leb (count_of s) max_readings) (both (leb (used_of s) st
 
 -- What the calls' definitions take for a state buffer.
 abbrev pub state_of : (states : ℕ) → List ℕ → State
-state_of m s = if valid_state m s then just (readings_of s) else nothing
+state_of m s = if valid_state m s then Some (readings_of s) else None
 
 -- Every state of every stack is one of a table of m states.
 abbrev pub StatesKnown : (m : ℕ) → List Reading → Type 0

@@ -1,12 +1,12 @@
 // The state buffer and the work area: where things stand in them, the check of any bytes, the readings of a state, start and load.
 #![tactic(auto)]
 
-ghost use Rattle.std.specs.Prelude.{◌≡◌, ◌++◌, ◌+◌, ◌*◌, ◌<◌, ◌≤◌, eqb, length};
+ghost use Rattle.std.specs.Prelude.{◌≡◌, ◌++◌, ◌+◌, ◌*◌, ◌<◌, ◌≤◌, length};
 ghost use Rattle.meaning.specs.Readings.{held_by};
-ghost use Rattle.state.specs.Layout.{state_len, work_len, readings_at, slot_size};
+ghost use Rattle.state.specs.Layout.{state_cells, readings_at, slot_size};
 ghost use Rattle.state.specs.Readings.{count_of, used_of, slot_at, put_slot, readings_from, ListIn};
 ghost use Rattle.state.specs.Check.{slots_right, valid_state, SlotsReady};
-ghost use Rattle.state.specs.Areas.{loaded, LoadReady, Started};
+ghost use Rattle.state.specs.Areas.{loaded, Started};
 
 use cells::Cell;
 use meaning::{CellNo, MAX_READINGS, StateNo};
@@ -41,6 +41,11 @@ pub const MAP_AT: usize = 42272;
 
 pub const WORK_LENGTH: usize = 46464;
 
+// The two buffers: their lengths stand in their types.
+pub type State = [u8; STATE_LENGTH];
+
+pub type Work = [u8; WORK_LENGTH];
+
 // A reading as a list has it: its top cell and its mark.
 #[derive(Clone, Copy)]
 pub struct Slot {
@@ -48,24 +53,13 @@ pub struct Slot {
     pub mark: u32,
 }
 
-pub fn state_length_right(state: &[u8]) -> bool
-    ensures { result ≡ eqb (length state.now) state_len }
-{
-    state.len() == STATE_LENGTH
-}
-
-pub fn work_length_right(work: &[u8]) -> bool
-    ensures { result ≡ eqb (length work.now) work_len }
-{
-    work.len() == WORK_LENGTH
-}
-
 // The slot i of the list that begins at `at`.
+#[tactic(auto, unfolding(crate::specs::Readings::slot_at))]
 pub fn get_slot(buffer: &[u8], at: usize, i: u16) -> Slot
     requires { at + slot_size * i + slot_size ≤ length buffer.now }
     ensures { result ≡ slot_at buffer.now at i }
 {
-    let p = at + SLOT_SIZE * (i as usize);
+    let p = at + SLOT_SIZE * usize::from(i);
     Slot {
         top: CellNo(numbers::get16(buffer, p)),
         mark: numbers::get32(buffer, p + 2),
@@ -73,42 +67,47 @@ pub fn get_slot(buffer: &[u8], at: usize, i: u16) -> Slot
 }
 
 // Writes the slot i of the list that begins at `at`, and no other byte.
+#[tactic(auto, unfolding(crate::specs::Readings::put_slot))]
 pub fn put_slot(buffer: &mut [u8], at: usize, i: u16, x: Slot)
     requires { at + slot_size * i + slot_size ≤ length buffer.old }
     ensures { buffer.new ≡ put_slot buffer.old at i x }
 {
-    let p = at + SLOT_SIZE * (i as usize);
-    numbers::put16(&mut *buffer, p, x.top.0);
-    numbers::put32(&mut *buffer, p + 2, x.mark);
+    let p = at + SLOT_SIZE * usize::from(i);
+    numbers::put16(buffer, p, x.top.0);
+    numbers::put32(buffer, p + 2, x.mark);
 }
 
 // How many readings a state has; none: it is consumed.
-pub fn reading_count(state: &[u8]) -> u16
-    requires { length state.now ≡ state_len }
+pub fn reading_count(state: &State) -> u16
     ensures { result ≡ count_of state.now }
 {
     numbers::get16(state, COUNT_AT)
 }
 
 // How many cells of a state are in use: those with lower numbers.
-pub fn cells_in_use(state: &[u8]) -> u16
-    requires { length state.now ≡ state_len }
+pub fn cells_in_use(state: &State) -> u16
     ensures { result ≡ used_of state.now }
 {
     numbers::get16(state, USED_AT)
 }
 
 // Whether the readings of a list stand, over cells below `cells`, with states below `states`.
+#[tactic(auto, using(crate::proofs::Checking::slots_ways))]
 pub fn list_right(buffer: &[u8], cells: u16, states: u16, at: usize, count: u16) -> bool
     requires { SlotsReady buffer.now cells at 0 count }
     ensures { result ≡ slots_right cells states buffer.now at 0 count }
 {
-    check::slots_right(buffer, cells, states, at, 0, count)
+    for i in 0..count {
+        if !check::slot_right(buffer, cells, states, at, i) {
+            return false;
+        }
+    }
+    true
 }
 
 // Whether the bytes, which may be any, are a state of a table of so many states.
-pub fn valid_state(state: &[u8], states: u16) -> bool
-    requires { length state.now ≡ state_len }
+#[tactic(auto, using(crate::proofs::Checking::valid_ways))]
+pub fn valid_state(state: &State, states: u16) -> bool
     ensures { result ≡ valid_state states state.now }
 {
     let count = reading_count(state);
@@ -123,22 +122,23 @@ pub fn valid_state(state: &[u8], states: u16) -> bool
 }
 
 // Whether one of `count` readings of a list, from the reading i on, holds the cell c.
+#[tactic(auto, using(crate::proofs::Holding::held_ways))]
 pub fn held_by(buffer: &[u8], at: usize, i: u16, count: u16, c: CellNo) -> bool
     requires { ListIn buffer.now at i count }
     ensures { result ≡ held_by (readings_from buffer.now at i count) c.0 }
 {
-    if count == 0 {
-        return false;
+    for k in i..i + count {
+        let slot = get_slot(buffer, at, k);
+        let x = cells::get_cell(buffer, slot.top);
+        if cells::holds_cell(buffer, x.height, slot.top, c) {
+            return true;
+        }
     }
-    let slot = get_slot(buffer, at, i);
-    let x = cells::get_cell(buffer, slot.top);
-    if cells::holds_cell(buffer, x.height, slot.top, c) {
-        return true;
-    }
-    held_by(buffer, at, i + 1, count - 1, c)
+    false
 }
 
 // Whether the cell c is held by a reading of the state that still waits, from the reading i on, or by a result, from the result j on.
+#[tactic(auto, using(crate::proofs::Holding::others_ways))]
 pub fn held_by_others(
     state: &[u8],
     i: u16,
@@ -152,32 +152,24 @@ pub fn held_by_others(
     requires { ListIn state.now readings_at i waiting × ListIn work.now at j results }
     ensures { result ≡ held_by (readings_from state.now readings_at i waiting ++ readings_from work.now at j results) c.0 }
 {
-    if held_by(state, READINGS_AT, i, waiting, c) {
-        return true;
-    }
-    held_by(work, at, j, results, c)
+    held_by(state, READINGS_AT, i, waiting, c) || held_by(work, at, j, results, c)
 }
 
 // The cells in use go to the same numbers of the work area's pool; its other bytes are kept.
-pub fn load(state: &[u8], work: &mut [u8])
-    requires { LoadReady state.now work.old }
+pub fn load(state: &State, work: &mut Work)
+    requires { used_of state.now ≤ state_cells }
     ensures { work.new ≡ loaded state.now work.old }
 {
-    let end = cells::CELL_SIZE * (cells_in_use(state) as usize);
-    let mut i: usize = 0;
-    while i < end {
-        work[i] = state[i];
-        i += 1;
-    }
+    let end = cells::CELL_SIZE * usize::from(cells_in_use(state));
+    work[..end].copy_from_slice(&state[..end]);
 }
 
 // One reading, one entry with this state: the state of a new line.
-pub fn start_state(state: &mut [u8], start: StateNo)
-    requires { length state.old ≡ state_len }
+pub fn start_state(state: &mut State, start: StateNo)
     ensures { Started start state.old state.new }
 {
     cells::put_cell(
-        &mut *state,
+        state,
         CellNo(0),
         Cell {
             parent: CellNo(0),
@@ -189,7 +181,7 @@ pub fn start_state(state: &mut [u8], start: StateNo)
         },
     );
     put_slot(
-        &mut *state,
+        state,
         READINGS_AT,
         0,
         Slot {
@@ -197,6 +189,6 @@ pub fn start_state(state: &mut [u8], start: StateNo)
             mark: 0,
         },
     );
-    numbers::put16(&mut *state, COUNT_AT, 1);
-    numbers::put16(&mut *state, USED_AT, 1);
+    numbers::put16(state, COUNT_AT, 1);
+    numbers::put16(state, USED_AT, 1);
 }

@@ -1,5 +1,5 @@
 -- What a checked table gives those who look things up in it: every number of an answer is below its count, and the counts are within the limits. Assumes nothing.
-use mathlib.Core.Path.{◌≡◌, refl, ap, subst}
+use mathlib.Core.Path.{◌≡◌, refl, ap, subst, ◌∙◌}
 use mathlib.Core.Bool.{Bool, true, false}
 use mathlib.Core.List.{List, [], ◌∷◌, map}
 use Prim.Native.Nat.{ℕ, zero, suc, ◌+◌, ◌<◌, ◌≤◌}
@@ -7,14 +7,17 @@ use native.Mathlib.Omega.{arith}
 use lib.Dec.{ltb, leb, eqb}
 use lib.ListN.{length, take, get_or}
 use borrow.Author.Tests.{ne_eqb, ltb-true, leb-true}
-use Rattle.meaning.specs.Basics.{both, every, find, Maybe, nothing, just}
-use Rattle.std.specs.Prelude.{if◌then◌else◌}
-use Rattle.meaning.specs.TableFile.{state_no, rules_from, rule_at, no_rule, ActionRecord, target, no_record, is_pair, actions_of, gotos_of, table_of, rule_of, action_of, goto_of, start_state}
-use Rattle.meaning.specs.TableRight.{counts_right, frame_right, picks, kind_right, rule_right, shift_right, rules_below, action_right, goto_right, Format, action_format, goto_format, fits, records_right, field_right, content_right}
+use Rattle.meaning.specs.Basics.{both, every, find}
+use Rattle.std.specs.Prelude.{if◌then◌else◌, Option, None}
+use Rattle.meaning.specs.TableFile.{state_no, view_of, rules_from, rule_at, no_rule, ActionRecord, target, no_record, is_pair, actions_of, gotos_of, table_of, rule_of, action_of, goto_of, start_state}
+use Rattle.meaning.specs.TableRight.{counts_right, frame_right, picks, kind_right, rule_right, shift_right, rules_below, action_right, goto_right, Format, action_format, goto_format, fits, records_right, field_right, content_right, shifts, table_ok}
 use Rattle.meaning.specs.declared.Counts.{Counts}
 use Rattle.meaning.specs.declared.Rule.{Rule}
+use Rattle.meaning.specs.declared.StateNo.{StateNo}
 use Rattle.meaning.specs.declared.View.{View}
-use Rattle.table.specs.Answers.{Belongs, action_answer, goto_answer}
+use Rattle.std.proofs.Common.{Some}
+use Rattle.table.specs.Belonging.{Belongs}
+use Rattle.table.specs.Answers.{action_answer, goto_answer}
 use Rattle.table.specs.Bounds.{CountsWithin, ActionWithin, RuleWithin, GotoWithin}
 use Rattle.table.specs.declared.Action.{Action}
 use Rattle.meaning.proofs.Booleans.{both_left, both_right}
@@ -84,32 +87,39 @@ first_rules (a ∷ b ∷ c ∷ []) h = refl
 first_rules (a ∷ b ∷ c ∷ d ∷ []) h = refl
 first_rules (a ∷ b ∷ c ∷ d ∷ e ∷ ks) h = absurd (omega arith)
 
-target_below : (c : Counts) (m : Maybe ℕ) → 0 < c.states → shift_right c m ≡ true → target m < c.states
-target_below c nothing h e = h
-target_below c (just to) h e = ltb-true to c.states e
+-- where a shift or a goto leads
+led : (m : Option ℕ) (to : StateNo) → goto_answer m ≡ Some to → m ≡ Some to.0
+unfolding goto_answer
+led None to e = let z : ◌≡◌ {A = ℕ} 0 1 = cc in absurd (omega arith)
+led (Some n) to e = let q : state_no n ≡ to = cc in ap (λ (x : StateNo). Some x.0) q
 
-action_within : (c : Counts) → 0 < c.states → (a : ActionRecord) → action_right c a ≡ true → ActionWithin c (action_answer a)
+shift_target : (m : Option ℕ) → shifts m ≡ true → goto_answer m ≡ Some (state_no (target m))
+unfolding goto_answer
+shift_target None e = let z : ◌≡◌ {A = ℕ} 0 1 = cc in absurd (omega arith)
+shift_target (Some to) e = refl
+
+action_within : (c : Counts) (a : ActionRecord) → action_right c a ≡ true → ActionWithin c (action_answer a)
 unfolding action_right action_answer
-action_within c h a e =
+action_within c a e =
     let more = both_right (both (ltb a.state c.states) (ltb a.class c.classes)) _ e in
     let named = both_left (both (shift_right c a.shift) (rules_below c a.rules)) _ more in
     let few : length a.rules ≤ 4 = leb-true _ 4 (both_left _ _ (both_right (both (shift_right c a.shift) (rules_below c a.rules)) _ more)) in
     record {
-      target = target_below c a.shift h (both_left _ _ named);
+      target = λ to f. ltb-true to.0 c.states (rw (led a.shift to f) at (both_left (shift_right c a.shift) _ named));
       count = few;
       rules = λ i l. rw (four_rules a.rules i (omega arith)) (below_at c a.rules i (both_right (shift_right c a.shift) _ named) l);
     }
 
-none_within : (c : Counts) → 0 < c.states → ActionWithin c (action_answer no_record)
-unfolding action_answer
-none_within c h = record { target = h; count = omega arith; rules = λ i l. absurd (omega arith) }
+none_within : (c : Counts) → ActionWithin c (action_answer no_record)
+unfolding action_answer goto_answer
+none_within c = record { target = λ to e. let z : ◌≡◌ {A = ℕ} 0 1 = cc in absurd (omega arith); count = omega arith; rules = λ i l. absurd (omega arith) }
 
 -- A goto.
-goto_within : (c : Counts) (to : ℕ) → to < c.states → GotoWithin c (goto_answer (just to))
+goto_within : (c : Counts) (to : ℕ) → to < c.states → GotoWithin c (goto_answer (Some to))
 unfolding goto_answer
-goto_within c to h = record { target = λ x e. let q : state_no to ≡ state_no x = cc in let f : to ≡ x = ap (λ n. n.0) q in omega arith }
+goto_within c to h = record { target = λ x e. let q : state_no to ≡ x = cc in let f : to ≡ x.0 = ap (λ (n : StateNo). n.0) q in omega arith }
 
-nothing_within : (c : Counts) → GotoWithin c (goto_answer nothing)
+nothing_within : (c : Counts) → GotoWithin c (goto_answer None)
 unfolding goto_answer
 nothing_within c = record { target = λ x e. let z : ◌≡◌ {A = ℕ} 0 1 = cc in absurd (omega arith) }
 
@@ -152,39 +162,47 @@ rule_within c r e =
     }
 
 -- Lookups in a checked table.
-module _ (s : List ℕ) (v : View) (B : Belongs s v) where
-  pub counts_found_within : CountsWithin v.counts
-  unfolding frame_right
-  counts_found_within = counts_within v.counts (both_left (counts_right v.counts) _ (checked_frame s v B))
+module _ (s : List ℕ) (ok : table_ok s ≡ true) where
+  of_view : Belongs s (view_of s)
+  of_view = record { is = refl; ok = ok }
 
-  pub rule_found_within : (k : ℕ) → k < v.counts.rules → RuleWithin v.counts (rule_of (table_of s) k)
+  pub counts_found_within : CountsWithin (table_of s).counts
+  unfolding frame_right table_of
+  counts_found_within = counts_within (view_of s).counts (both_left (counts_right (view_of s).counts) _ (checked_frame s (view_of s) of_view))
+
+  pub rule_found_within : (k : ℕ) → k < (table_of s).counts.rules → RuleWithin (table_of s).counts (rule_of (table_of s) k)
   unfolding rule_of table_of content_right
   rule_found_within k h =
-      subst (λ (w : View). RuleWithin v.counts (get_or (rules_from w.counts.rules s w.rules.at) k no_rule)) B.is
-      (rule_within v.counts _ (every_at v.counts s v.counts.rules v.rules.at k (both_left _ _ (checked_content s v B)) h))
+      let v : View = view_of s in
+      rule_within v.counts _ (every_at v.counts s v.counts.rules v.rules.at k (both_left _ _ (checked_content s v of_view)) h)
 
-  pub action_found_within : (a b : ℕ) → ActionWithin v.counts (action_answer (action_of (table_of s) a b))
+  pub action_found_within : (a b : ℕ) → ActionWithin (table_of s).counts (action_answer (action_of (table_of s) a b))
   unfolding action_of table_of actions_of field_right action_format
   action_found_within a b =
-      let some : 0 < v.counts.states = counts_found_within.some_state in
-      subst (λ (w : View). ActionWithin v.counts (action_answer (find (λ x. is_pair a b x.state x.class) (λ x. x) no_record (actions_of s w)))) B.is
-      (find_holds (λ x. ActionWithin v.counts (action_answer x)) (λ x. is_pair a b x.state x.class) (action_right v.counts) (λ x. x) no_record
-      (none_within v.counts some) (action_within v.counts some) (actions_of s v) (all_right (action_format s v.counts) v.actions.end 0 _ (checked_actions s v B).right))
+      let v : View = view_of s in
+      find_holds (λ x. ActionWithin v.counts (action_answer x)) (λ x. is_pair a b x.state x.class) (action_right v.counts) (λ x. x) no_record
+      (none_within v.counts) (action_within v.counts) (actions_of s v) (all_right (action_format s v.counts) v.actions.end 0 _ (checked_actions s v of_view).right)
 
-  pub goto_found_within : (a b : ℕ) → GotoWithin v.counts (goto_answer (goto_of (table_of s) a b))
+  pub goto_found_within : (a b : ℕ) → GotoWithin (table_of s).counts (goto_answer (goto_of (table_of s) a b))
   unfolding goto_of table_of gotos_of field_right goto_format goto_right
   goto_found_within a b =
-      let c : Counts = v.counts in
-      subst (λ (w : View). GotoWithin c (goto_answer (find (λ x. is_pair a b x.state x.nonterminal) (λ x. just x.target) nothing (gotos_of s w)))) B.is
-      (find_holds (λ x. GotoWithin c (goto_answer x)) (λ x. is_pair a b x.state x.nonterminal) (goto_right c) (λ x. just x.target) nothing
-      (nothing_within c) (λ g e. goto_within c g.target (ltb-true _ c.states (both_right (ltb g.nonterminal c.nonterminals) _ (both_right (ltb g.state c.states) _ e)))) (gotos_of s v) (all_right (goto_format s c) v.gotos.end 0 _ (checked_gotos s v B).right))
+      let v : View = view_of s in let c : Counts = v.counts in
+      find_holds (λ x. GotoWithin c (goto_answer x)) (λ x. is_pair a b x.state x.nonterminal) (goto_right c) (λ x. Some x.target) None
+      (nothing_within c) (λ g e. goto_within c g.target (ltb-true _ c.states (both_right (ltb g.nonterminal c.nonterminals) _ (both_right (ltb g.state c.states) _ e)))) (gotos_of s v) (all_right (goto_format s c) v.gotos.end 0 _ (checked_gotos s v of_view).right)
 
-  pub answer_rules : (a b : ℕ) (r : Action) → r ≡ action_answer (action_of (table_of s) a b) → take r.count r.rules ≡ (action_of (table_of s) a b).rules
-  unfolding action_answer
-  answer_rules a b r e =
-      let few : length (action_of (table_of s) a b).rules ≤ 4 = (action_found_within a b).count in
-      rw e (first_rules (action_of (table_of s) a b).rules few)
+  -- state 0 shifts at class 2: to the start state, which is a state
+  pub start_found : (a : Action) → a ≡ action_answer (action_of (table_of s) 0 2) → a.shift ≡ Some (state_no (start_state (table_of s)))
+  unfolding action_answer start_state table_ok
+  start_found a e =
+      ap (λ (x : Action). x.shift) e
+      ∙ shift_target (action_of (table_of s) 0 2).shift (both_right (content_right s (view_of s)) _ (both_right (frame_right s (view_of s)) _ ok))
 
-  pub start_state_below : start_state (table_of s) < v.counts.states
-  unfolding start_state action_answer
-  start_state_below = (action_found_within 0 2).target
+  pub start_state_below : start_state (table_of s) < (table_of s).counts.states
+  start_state_below = (action_found_within 0 2).target (state_no (start_state (table_of s))) (start_found _ refl)
+
+-- The rules of an answer, as many as its count, are the record's.
+pub answer_rules : (x : ActionRecord) (a : Action) → a ≡ action_answer x → a.count ≤ 4 → take a.count a.rules ≡ x.rules
+unfolding action_answer
+answer_rules x a e h =
+    let few : length x.rules ≤ 4 = subst (λ (b : Action). b.count ≤ 4) e h in
+    rw e (first_rules x.rules few)

@@ -7,27 +7,28 @@ use native.Mathlib.Omega.{arith}
 use lib.Dec.{leb, eqb}
 use lib.ListN.{length, get_or}
 use borrow.Author.Tests.{leb-true, eqb-true}
-use Rattle.meaning.specs.Basics.{every, nothing, just}
+use Rattle.meaning.specs.Basics.{both, every}
 use Rattle.std.specs.Prelude.{if◌then◌else◌}
 use Rattle.meaning.specs.Bytes.{byte_at, u16_at}
-use Rattle.meaning.specs.TableFile.{field_at, view_of, rules_from, no_rule, no_record, actions_of, gotos_of, table_of, rule_of, action_of, goto_of}
+use Rattle.meaning.specs.TableFile.{Table, field_at, view_of, rules_from, no_rule, no_record, actions_of, gotos_of, table_of, rule_of, action_of, goto_of}
 use Rattle.meaning.specs.TableRight.{counts_right, head_at, front_right, middle_right, back_right, shape_right, frame_right, rule_right, action_format, goto_format, field_right, content_right, shifts, table_ok}
 use Rattle.meaning.specs.declared.Rule.{Rule}
+use Rattle.meaning.specs.declared.StateNo.{StateNo}
 use Rattle.meaning.specs.declared.View.{View}
-use Rattle.table.specs.Answers.{check_of, Belongs, action_answer, goto_answer}
-use Rattle.table.specs.Records.{Framed, Sound, seek}
+use Rattle.std.proofs.Common.{Option, Some, None}
+use Rattle.std.specs.Option.{is_some}
+use Rattle.table.specs.Belonging.{Belongs}
+use Rattle.table.specs.Answers.{check_of, checked_of, action_answer, goto_answer}
+use Rattle.table.specs.Records.{Framed, Sound, seek, start_in}
 use Rattle.table.specs.declared.Action.{Action}
-use Rattle.table.specs.declared.Goto.{Goto}
-use Rattle.table.specs.declared.Checked.{Checked}
-use Rattle.table.specs.declared.Checked.TheVariants.{Wrong, Right}
 use Rattle.meaning.proofs.Booleans.{both_left, both_right}
 
 -- what find_action and find_goto give
 abbrev pub action_in : List ℕ → View → (state class : ℕ) → Action
 action_in s v a b = action_answer (seek (action_format s v.counts) (λ x. x) no_record a b v.actions.end v.actions.at)
 
-abbrev pub goto_in : List ℕ → View → (state nonterminal : ℕ) → Goto
-goto_in s v a b = goto_answer (seek (goto_format s v.counts) (λ g. just g.target) nothing a b v.gotos.end v.gotos.at)
+abbrev pub goto_in : List ℕ → View → (state nonterminal : ℕ) → Option StateNo
+goto_in s v a b = goto_answer (seek (goto_format s v.counts) (λ g. Some g.target) None a b v.gotos.end v.gotos.at)
 
 action_in_lem : (s : List ℕ) (a b : ℕ) → action_in s (view_of s) a b ≡ action_answer (action_of (table_of s) a b)
 unfolding seek action_format action_of table_of actions_of
@@ -91,56 +92,76 @@ module _ (s : List ℕ) (v : View) (B : Belongs s v) where
   pub checked_gotos : Sound (goto_format s v.counts) s v.gotos.at v.gotos.end
   checked_gotos = gotos_sound s v _ checked_framed refl checked_content
 
-  pub checked_action : (a b : ℕ) (r : Action) → r ≡ action_in s v a b → r ≡ action_answer (action_of (table_of s) a b)
-  checked_action a b r e = e ∙ ap (λ w. action_in s w a b) B.is ∙ action_in_lem s a b
+  -- the table that the bytes say
+  module _ (t : Table) (of : table_of s ≡ t) where
+    pub checked_counts : v.counts ≡ t.counts
+    unfolding table_of
+    checked_counts = ap (λ (w : View). w.counts) B.is ∙ ap (λ (x : Table). x.counts) of
 
-  pub checked_goto : (a b : ℕ) (r : Goto) → r ≡ goto_in s v a b → r ≡ goto_answer (goto_of (table_of s) a b)
-  checked_goto a b r e = e ∙ ap (λ w. goto_in s w a b) B.is ∙ goto_in_lem s a b
+    pub checked_recovers : v.recovers ≡ t.recovers
+    unfolding table_of
+    checked_recovers = ap (λ (w : View). w.recovers) B.is ∙ ap (λ (x : Table). x.recovers) of
 
-  pub checked_rule : (k : ℕ) (r : Rule) → r ≡ get_or (rules_from v.counts.rules s v.rules.at) k no_rule → r ≡ rule_of (table_of s) k
-  unfolding rule_of table_of
-  checked_rule k r e = e ∙ ap (λ w. get_or (rules_from w.counts.rules s w.rules.at) k no_rule) B.is
+    pub checked_action : (a b : ℕ) (r : Action) → r ≡ action_in s v a b → r ≡ action_answer (action_of t a b)
+    checked_action a b r e = e ∙ ap (λ w. action_in s w a b) B.is ∙ action_in_lem s a b ∙ ap (λ x. action_answer (action_of x a b)) of
 
--- The check's four ways out.
-module _ (s : List ℕ) (v : View) (b : Bool) (e : v ≡ view_of s) (f : b ≡ frame_right s v) where
-  pub check_frame : b ≡ false → Wrong ≡ check_of s
-  unfolding check_of table_ok
-  check_frame g = rw (← e, ← f, g)
+    pub checked_goto : (a b : ℕ) (r : Option StateNo) → r ≡ goto_in s v a b → r ≡ goto_answer (goto_of t a b)
+    checked_goto a b r e = e ∙ ap (λ w. goto_in s w a b) B.is ∙ goto_in_lem s a b ∙ ap (λ x. goto_answer (goto_of x a b)) of
 
-  module _ (d : Bool) (g : b ≡ true) (h : d ≡ content_right s v) where
-    pub check_content : d ≡ false → Wrong ≡ check_of s
-    unfolding check_of table_ok
-    check_content i = rw (← e, ← f, g, ← h, i)
+    pub checked_rule : (k : ℕ) (r : Rule) → r ≡ get_or (rules_from v.counts.rules s v.rules.at) k no_rule → r ≡ rule_of t k
+    unfolding rule_of table_of
+    checked_rule k r e = e ∙ ap (λ w. get_or (rules_from w.counts.rules s w.rules.at) k no_rule) B.is ∙ ap (λ x. rule_of x k) of
 
-    module _ (a : Action) (i : d ≡ true) (j : a ≡ action_in s v 0 2) where
-      started : shifts (action_of (table_of s) 0 2).shift ≡ a.shifts
-      unfolding action_answer
-      started = sym (ap (λ x. x.shifts) (j ∙ ap (λ w. action_in s w 0 2) e ∙ action_in_lem s 0 2))
+-- The check, by its three tests.
+shifts_some : (m : Option ℕ) → shifts m ≡ is_some (goto_answer m)
+unfolding goto_answer
+shifts_some None = refl
+shifts_some (Some to) = refl
 
-      pub check_start : a.shifts ≡ false → Wrong ≡ check_of s
-      unfolding check_of table_ok
-      check_start k = rw (← e, ← f, g, ← h, i, started, k)
+started : (s : List ℕ) → shifts (action_of (table_of s) 0 2).shift ≡ start_in s (view_of s)
+unfolding start_in action_answer
+started s =
+    shifts_some (action_of (table_of s) 0 2).shift
+    ∙ sym (ap (λ (x : Action). is_some x.shift) (action_in_lem s 0 2))
 
-      pub check_right : a.shifts ≡ true → Right v ≡ check_of s
-      unfolding check_of table_ok
-      check_right k = rw (← e, ← f, g, ← h, i, started, k)
+pub check_is : (s : List ℕ) (v : View) → v ≡ view_of s → (if both (frame_right s v) (both (content_right s v) (start_in s v)) then Some v else None) ≡ check_of s
+unfolding check_of table_ok
+check_is s v e = rw (e, started s)
 
 -- What a caller learns from the check.
-right_if : (b : Bool) (v w : View) → Right v ≡ (if b then Right w else Wrong) → (v ≡ w) × (b ≡ true)
-right_if true v w e = (cc, refl)
-right_if false v w e = let z : ◌≡◌ {A = ℕ} 0 1 = cc in absurd (omega arith)
+some_if : {A : Type 0} (b : Bool) (x y : A) → Some x ≡ (if b then Some y else None) → (x ≡ y) × (b ≡ true)
+some_if true x y e = (cc, refl)
+some_if false x y e = let z : ◌≡◌ {A = ℕ} 0 1 = cc in absurd (omega arith)
 
-pub belongs : (s : List ℕ) (v : View) → Right v ≡ check_of s → Belongs s v
+none_if : {A : Type 0} (b : Bool) (y : A) → None ≡ (if b then Some y else None) → b ≡ false
+none_if false y e = refl
+none_if true y e = let z : ◌≡◌ {A = ℕ} 0 1 = cc in absurd (omega arith)
+
+pub belongs_of : (s : List ℕ) (v : View) (r : Option View) → r ≡ check_of s → r ≡ Some v → Belongs s v
 unfolding check_of
-belongs s v e = let p = right_if (table_ok s) v (view_of s) e in record { is = p.0; ok = p.1 }
+belongs_of s v r e f = let p = some_if (table_ok s) v (view_of s) (sym f ∙ e) in record { is = p.0; ok = p.1 }
 
-pub belongs_of : (s : List ℕ) (v : View) (r : Checked) → r ≡ check_of s → r ≡ Right v → Belongs s v
-belongs_of s v r e f = belongs s v (sym f ∙ e)
+pub checked_right : (s : List ℕ) (v : View) → Belongs s v → Some (table_of s) ≡ checked_of s
+unfolding checked_of
+checked_right s v B = rw B.ok
 
-wrong_if : (b : Bool) (w : View) → Wrong ≡ (if b then Right w else Wrong) → b ≡ false
-wrong_if false w e = refl
-wrong_if true w e = let z : ◌≡◌ {A = ℕ} 0 1 = cc in absurd (omega arith)
+pub checked_wrong : (s : List ℕ) → table_ok s ≡ false → None ≡ checked_of s
+unfolding checked_of
+checked_wrong s e = rw e
 
-pub wrong_of : (s : List ℕ) (r : Checked) → r ≡ check_of s → r ≡ Wrong → table_ok s ≡ false
+-- the same of the check that gives the whole table
+pub decoded_of : (s : List ℕ) (t : Table) (r : Option Table) → r ≡ checked_of s → r ≡ Some t → t ≡ table_of s
+unfolding checked_of
+decoded_of s t r e f = (some_if (table_ok s) t (table_of s) (sym f ∙ e)).0
+
+pub right_of : (s : List ℕ) (t : Table) (r : Option Table) → r ≡ checked_of s → r ≡ Some t → table_ok s ≡ true
+unfolding checked_of
+right_of s t r e f = (some_if (table_ok s) t (table_of s) (sym f ∙ e)).1
+
+pub not_right_of : (s : List ℕ) (r : Option Table) → r ≡ checked_of s → r ≡ None → table_ok s ≡ false
+unfolding checked_of
+not_right_of s r e f = none_if (table_ok s) (table_of s) (sym f ∙ e)
+
+pub wrong_of : (s : List ℕ) (r : Option View) → r ≡ check_of s → r ≡ None → table_ok s ≡ false
 unfolding check_of
-wrong_of s r e f = wrong_if (table_ok s) (view_of s) (sym f ∙ e)
+wrong_of s r e f = none_if (table_ok s) (view_of s) (sym f ∙ e)

@@ -2,7 +2,8 @@
 pub mod Checking
 pub mod Bounds
 mod RuleLaws
-mod ActionLaws
-mod GotoLaws
-mod Fields
+pub mod ActionLaws
+pub mod Sought
+pub mod Fields
 mod Search
+pub mod Placed

@@ -47,9 +47,6 @@ module _ {X Y : Type 0} (F : Format X) (out : X → Y) (none : Y) (a b e : ℕ) 
       let ps : List ℕ = places F.size (e - at) at e in
       find_past low (map F.decode ps) (both_right (every F.right (map F.decode ps)) _ (both_right (every (fits F e) ps) _ h)) i
 
-  pub scan_start : (from : ℕ) → field_right F e 0 from ≡ true → Scan F out none a b e from from
-  scan_start from h = record { least = 0; right = h; same = refl }
-
   module _ (from at : ℕ) (S : Scan F out none a b e from at) where
     pub scan_end : e ≤ at → none ≡ seek F out none a b e from
     scan_end h = sym (seek_end at h) ∙ S.same

@@ -2,89 +2,141 @@
 #![tactic(auto)]
 
 ghost use Rattle.std.specs.Prelude.{◌≡◌};
-ghost use Rattle.meaning.specs.TableFile.{table_of, rule_of, action_of, goto_of};
-ghost use Rattle.meaning.specs.TableRight.{content_right};
-ghost use Rattle.table.specs.Answers.{check_of, Belongs, action_answer, goto_answer};
-ghost use Rattle.table.specs.Records.{Framed};
+ghost use Rattle.meaning.specs.TableFile.{rule_of, action_of, goto_of};
+ghost use Rattle.meaning.specs.TableRight.{content_right, action_format};
+ghost use Rattle.table.specs.Answers.{check_of, checked_of, action_answer, goto_answer};
+ghost use Rattle.table.specs.Bounds.{ActionWithin};
+ghost use Rattle.table.specs.Records.{Framed, Sound, start_in};
 
+use actions::Actions;
+use gotos::Gotos;
 use meaning::{Rule, START_CLASS, StateNo, View};
+use records::records_right;
+use std::marker::Model;
 
-mod actions;
-mod frame;
-mod gotos;
-mod reading;
-mod rules;
+pub mod actions;
+pub mod frame;
+pub mod gotos;
+pub mod reading;
+pub mod records;
+pub mod rules;
 
-#[derive(Clone, Copy)]
-pub enum Checked {
-    Wrong,
-    Right(View),
-}
-
-// What a state does at a class: whether it shifts and to which state (0 if it does not), how many rules it reduces by, and which (0 past the count).
-#[derive(Clone, Copy)]
+// What a state does at a class: the state that it shifts to, if it shifts, how many rules it reduces by, and which (0 past the count).
+#[derive(Clone, Copy, Debug, PartialEq, Eq)]
 pub struct Action {
-    pub shifts: bool,
-    pub target: StateNo,
+    pub shift: Option<StateNo>,
     pub count: u8,
     pub rules: [u16; 4],
 }
 
-// Where a state goes on after a reduction.
-#[derive(Clone, Copy)]
-pub enum Goto {
-    To(StateNo),
-    Nothing,
+// The bytes of a table file that were found right, and where things stand in them. Clauses see the table that the bytes say.
+#[derive(Drop)]
+pub struct Table<'a> {
+    pub bytes: &'a [u8],
+    pub view: View,
+}
+
+impl<'a> Model for Table<'a> {
+    ghost use Rattle.meaning.specs.TableFile.{table_of, Table as Decoded};
+
+    ghost Value = { Decoded };
+
+    ghost use Rattle.table.specs.Belonging.{Belongs};
+
+    ghost view = { λ t. table_of t.bytes.now };
+
+    ghost invariant = { λ t. Belongs t.bytes.now t.view };
 }
 
 fn content_right(table: &[u8], view: View) -> bool
     requires { Framed table.now view }
     ensures { result ≡ content_right table.now view }
 {
-    let rules = rules::rules_right(table, view.counts, view.counts.rules, view.rules.at);
-    let actions = actions::actions_right(table, view.counts, view.actions.at, view.actions.end);
-    let gotos = gotos::gotos_right(table, view.counts, view.gotos.at, view.gotos.end);
-    reading::both(rules, reading::both(actions, gotos))
+    let View {
+        counts,
+        rules,
+        actions,
+        gotos,
+        ..
+    } = view;
+    rules::rules_right(table, counts, counts.rules, rules.at)
+        && records_right::<Actions>(table, counts, actions.at, actions.end)
+        && records_right::<Gotos>(table, counts, gotos.at, gotos.end)
 }
 
-// Whether the bytes, which may be any, are a right table file, and where things stand in it.
-pub fn check_table(table: &[u8]) -> Checked
+// Whether state 0 shifts at the class of the start.
+fn starts(table: &[u8], view: View) -> bool
+    requires { Sound (action_format table.now view.counts) table.now view.actions.at view.actions.end }
+    ensures { result ≡ start_in table.now view }
+{
+    actions::find_action(table, view, 0, START_CLASS)
+        .shift
+        .is_some()
+}
+
+// Where things stand in the bytes, which may be any, if they are a right table file.
+pub fn check_table(table: &[u8]) -> Option<View>
     ensures { result ≡ check_of table.now }
 {
     let view = frame::view_of(table);
-    if frame::frame_right(table, view) {
-        if content_right(table, view) {
-            let start = actions::find_action(table, view, 0, START_CLASS);
-            if start.shifts {
-                return Checked::Right(view);
-            }
-            return Checked::Wrong;
-        }
-        return Checked::Wrong;
+    if frame::frame_right(table, view) && content_right(table, view) && starts(table, view) {
+        return Some(view);
     }
-    Checked::Wrong
+    None
 }
 
-// The rule of a number; all zero if there is none.
-pub fn rule_of(table: &[u8], view: View, number: u16) -> Rule
-    requires { Belongs table.now view }
-    ensures { result ≡ rule_of (table_of table.now) number }
-{
-    rules::find_rule(table, view.counts.rules, view.rules.at, number)
-}
+impl<'a> Table<'a> {
+    // The table of the bytes, which may be any, if they are a right table file.
+    pub fn check(bytes: &'a [u8]) -> Option<Table<'a>>
+        ensures { result ≡ checked_of bytes.now }
+    {
+        let view = check_table(bytes)?;
+        Some(Table { bytes, view })
+    }
 
-// What a state does at a class; neither shift nor rules if there is no record.
-pub fn action_of(table: &[u8], view: View, state: StateNo, class: u16) -> Action
-    requires { Belongs table.now view }
-    ensures { result ≡ action_answer (action_of (table_of table.now) state.0 class) }
-{
-    actions::find_action(table, view, state.0, class)
-}
+    pub fn states(&self) -> u16
+        ensures { result ≡ self.now.counts.states }
+    {
+        self.view.counts.states
+    }
 
-// Where a state goes on after a reduction to a nonterminal.
-pub fn goto_of(table: &[u8], view: View, state: StateNo, nonterminal: u16) -> Goto
-    requires { Belongs table.now view }
-    ensures { result ≡ goto_answer (goto_of (table_of table.now) state.0 nonterminal) }
-{
-    gotos::find_goto(table, view, state.0, nonterminal)
+    pub fn classes(&self) -> u16
+        ensures { result ≡ self.now.counts.classes }
+    {
+        self.view.counts.classes
+    }
+
+    // Whether the error class is used.
+    pub fn recovers(&self) -> bool
+        ensures { result ≡ self.now.recovers }
+    {
+        self.view.recovers
+    }
+
+    // The rule of a number; all zero if there is none.
+    pub fn rule(&self, number: u16) -> Rule
+        ensures { result ≡ rule_of self.now number }
+    {
+        rules::find_rule(
+            self.bytes,
+            self.view.counts.rules,
+            self.view.rules.at,
+            number,
+        )
+    }
+
+    // What a state does at a class; neither shift nor rules if there is no record.
+    pub fn action(&self, state: StateNo, class: u16) -> Action
+        ensures is { result ≡ action_answer (action_of self.now state.0 class) }
+        ensures within { ActionWithin self.now.counts result }
+    {
+        actions::find_action(self.bytes, self.view, state.0, class)
+    }
+
+    // Where a state goes on after a reduction to a nonterminal.
+    pub fn goto(&self, state: StateNo, nonterminal: u16) -> Option<StateNo>
+        ensures { result ≡ goto_answer (goto_of self.now state.0 nonterminal) }
+    {
+        gotos::find_goto(self.bytes, self.view, state.0, nonterminal)
+    }
 }

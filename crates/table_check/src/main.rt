@@ -1,121 +1,96 @@
 // Says of each table file that the arguments name whether it is right, and if not the first rule that it breaks, with field, record and byte.
 #![tactic(auto)]
 
-ghost use Rattle.std.specs.Prelude.{◌≡◌, length};
-
-use faults::{Fault, Verdict};
-use meaning::{Counts, View};
+use faults::Broken;
+use meaning::View;
 use std::env::Env;
-use table::Checked;
+use std::io;
 
-mod print;
-mod words;
-
-fn print_counts(rt: &HostRuntime, counts: Counts) {
-    print::number(rt, b", states ", counts.states as usize);
-    print::number(rt, b", classes ", counts.classes as usize);
-    print::number(rt, b", nonterminals ", counts.nonterminals as usize);
-    print::number(rt, b", rules ", counts.rules as usize);
-}
-
-fn print_view(rt: &HostRuntime, view: View) {
-    print_counts(rt, view.counts);
+fn print_view(rt: &impl Print, view: View) -> io::Result<()> {
+    let counts = view.counts;
+    print!(rt; ", states {}, classes {}", counts.states, counts.classes)?;
+    print!(rt;
+        ", nonterminals {}, rules {}",
+        counts.nonterminals, counts.rules
+    )?;
     if view.recovers {
-        print::text(rt, b", error class used");
+        print!(rt; ", error class used")?;
     }
+    Ok(())
 }
 
-fn print_right(rt: &HostRuntime, bytes: &[u8]) {
-    print::text(rt, b": right");
-    match table::check_table(bytes) {
-        Checked::Right(view) => print_view(rt, view),
-        Checked::Wrong => {}
+fn print_right(rt: &impl Print, bytes: &[u8]) -> io::Result<()> {
+    print!(rt; ": right")?;
+    if let Some(view) = table::check_table(bytes) {
+        print_view(rt, view)?;
     }
+    Ok(())
 }
 
 // Field 0 is the file.
-fn print_field(rt: &HostRuntime, fault: Fault, field: u8) {
-    print::text(rt, b": wrong, ");
-    words::fault(rt, fault);
-    if field > 0 {
-        print::number(rt, b": field ", field as usize);
-        return;
+fn print_broken(rt: &impl Print, broken: Broken, length: usize) -> io::Result<()> {
+    let Broken {
+        fault,
+        field,
+        record,
+        byte,
+    } = broken;
+    print!(rt; ": wrong, {fault}: ")?;
+    match field {
+        0 => print!(rt; "the file")?,
+        _ => print!(rt; "field {field}")?,
     }
-    print::text(rt, b": the file");
-}
-
-fn print_byte(rt: &HostRuntime, byte: usize, length: usize) {
-    print::number(rt, b", byte ", byte);
+    if let Some(record) = record {
+        print!(rt; ", record {record}")?;
+    }
+    print!(rt; ", byte {byte}")?;
     if length <= byte {
-        print::text(rt, b", past the end of the file");
+        print!(rt; ", past the end of the file")?;
     }
+    Ok(())
 }
 
-fn print_check(rt: &HostRuntime, name: &[u8], bytes: &[u8]) -> bool {
-    print::text(rt, name);
+fn print_check(rt: &HostRuntime, name: &[u8], bytes: &[u8]) -> io::Result<()> {
+    rt.write_all(name)?;
     match faults::diagnose(bytes) {
-        Verdict::Right => print_right(rt, bytes),
-        Verdict::Wrong { fault, field, byte } => {
-            print_field(rt, fault, field);
-            print_byte(rt, byte, bytes.len());
-        }
-        Verdict::WrongRecord {
-            fault,
-            field,
-            record,
-            byte,
-        } => {
-            print_field(rt, fault, field);
-            print::number(rt, b", record ", record);
-            print_byte(rt, byte, bytes.len());
-        }
+        Ok(()) => print_right(rt, bytes)?,
+        Err(broken) => print_broken(rt, broken, bytes.len())?,
     }
-    print::line_end(rt)
-}
-
-// Room for more bytes than a right table file has: a longer one is cut, and wrong all the same.
-fn room() -> [u8; 70000]
-    ensures { 70000 ≡ length result }
-{
-    [0; 70000]
+    println!(rt)
 }
 
 // A file that cannot be read is said on standard error; the next one is checked all the same.
-fn check_file(rt: &HostRuntime, name: &[u8]) -> bool {
-    match host::open(rt, name) {
-        Some(mut file) => {
-            let mut bytes = room();
-            let n = host::read_full(&mut file, &mut bytes);
-            print_check(rt, name, &bytes[..n])
-        }
-        None => true,
-    }
+// There is room for more bytes than a right table file has: a longer one is cut, and wrong all the same.
+fn check_file(rt: &HostRuntime, name: &[u8]) -> io::Result<()> {
+    let Some(mut file) = host::open(rt, name) else {
+        return Ok(());
+    };
+    let mut bytes = [0u8; 70000];
+    let n = host::read_full(&mut file, &mut bytes);
+    print_check(rt, name, &bytes[..n])
 }
 
-fn check_argument(rt: &HostRuntime, i: usize) -> bool {
+fn check_argument(rt: &HostRuntime, i: usize) -> io::Result<()> {
     let mut name = [0u8; 4096];
     let n = rt.arg(i, &mut name).unwrap_or(0);
     check_file(rt, &name[..n])
 }
 
-fn check_arguments(rt: &HostRuntime, count: usize) {
-    let mut i: usize = 1;
-    while i < count {
-        if !check_argument(rt, i) {
-            return;
-        }
-        i += 1;
+fn check_arguments(rt: &HostRuntime, count: usize) -> io::Result<()> {
+    for i in 1..count {
+        check_argument(rt, i)?;
     }
+    Ok(())
 }
 
+// The first line that cannot be written ends it, and standard error says why.
 fn main(rt: HostRuntime) {
     let count = host::arg_count(&rt);
     if count < 2 {
-        print::text(
-            &rt,
-            b"table_check FILE..: says of each table file what is wrong with it\n",
-        );
+        let _ = println!(&rt; "table_check FILE..: says of each table file what is wrong with it");
         return;
     }
-    check_arguments(&rt, count);
+    if let Err(error) = check_arguments(&rt, count) {
+        host::fail(&rt, b"standard output", &error);
+    }
 }

@@ -2,50 +2,24 @@
 ghost use Rattle.std.specs.Prelude.{◌≡◌, ◌<◌, ◌≤◌};
 ghost use Rattle.meaning.specs.TableRight.{table_ok};
 
-use super::print;
-use table::Checked;
+use std::io;
 
 fn is_right(bytes: &[u8]) -> bool
     ensures { result ≡ table_ok bytes.now }
 {
-    match table::check_table(bytes) {
-        Checked::Right(_) => true,
-        Checked::Wrong => false,
-    }
+    table::check_table(bytes).is_some()
 }
 
-fn print_share(rt: &HostRuntime, what: &[u8], right: usize, all: usize) {
-    print::number(rt, what, right);
-    print::number(rt, b" of ", all);
-    print::text(rt, b" right\n");
-}
-
-// 1 for a right table, with a line that says so, else 0.
-fn check_prefix(rt: &HostRuntime, prefix: &[u8]) -> usize
-    ensures { result ≤ 1 }
-{
-    if is_right(prefix) {
-        print::number(rt, b"T1, bytes kept: ", prefix.len());
-        print::text(rt, b", right\n");
-        return 1;
-    }
-    0
-}
-
-pub fn check_prefixes(rt: &HostRuntime, table: &[u8]) {
+// A line for each right prefix, and one for all.
+pub fn check_prefixes(rt: &impl Print, table: &[u8]) -> io::Result<()> {
     let mut right: usize = 0;
-    let mut n: usize = 0;
-    while n < table.len() {
-        right += check_prefix(rt, &table[..n]);
-        n += 1;
+    for n in 0..table.len() {
+        if is_right(&table[..n]) {
+            println!(rt; "T1, bytes kept: {n}, right")?;
+            right += 1;
+        }
     }
-    print_share(rt, b"T1, cut short: ", right, n);
-}
-
-fn one_if(right: bool) -> usize
-    ensures { result ≤ 1 }
-{
-    if right { 1 } else { 0 }
+    println!(rt; "T1, cut short: {right} of {} right", table.len())
 }
 
 // How many of the 255 other values of byte i leave the table right.
@@ -54,28 +28,26 @@ fn right_changes(table: [u8; 167], i: usize) -> usize
     ensures { result ≤ 255 }
 {
     let mut changed = table;
-    let mut more: u8 = 255;
     let mut right: usize = 0;
-    while 0 < more {
+    for more in 1..=255 {
         changed[i] = table[i].wrapping_add(more);
-        right += one_if(is_right(&changed));
-        more -= 1;
+        right += usize::from(is_right(&changed));
     }
     right
 }
 
 // One line for each byte that has other right values, and one for all.
-pub fn check_changes(rt: &HostRuntime, table: [u8; 167]) {
+pub fn check_changes(rt: &impl Print, table: [u8; 167]) -> io::Result<()> {
     let mut right: usize = 0;
-    let mut i: usize = 0;
-    while i < 167 {
+    for i in 0..table.len() {
         let here = right_changes(table, i);
         if 0 < here {
-            print::number(rt, b"T1, byte ", i);
-            print_share(rt, b" changed: ", here, 255);
+            println!(rt; "T1, byte {i} changed: {here} of 255 right")?;
         }
         right += here;
-        i += 1;
     }
-    print_share(rt, b"T1, one byte changed: ", right, 255 * i);
+    println!(rt;
+        "T1, one byte changed: {right} of {} right",
+        255 * table.len()
+    )
 }

@@ -2,14 +2,13 @@
 #![tactic(auto)]
 
 ghost use Rattle.std.specs.Prelude.{◌≡◌};
-ghost use Rattle.meaning.specs.TableFile.{table_of};
 ghost use Rattle.state.specs.Readings.{ListIn};
 ghost use Rattle.taking.specs.Taking.{top_of, TakeReady, TakingIs};
 
 use actions::{Counts, Top};
-use applying::apply_reading;
-use chains::Planned;
-use meaning::{MAX_CHAINS, Refusal, Term, View};
+use meaning::{MAX_CHAINS, Refusal, Term};
+use state::Work;
+use table::Table;
 
 // How far a stage of a feed is: cells, results and error records, the reductions walked, the chains ended in this stage.
 #[derive(Clone, Copy)]
@@ -19,24 +18,23 @@ pub struct SoFar {
     pub chains: usize,
 }
 
-// A reading is refused, takes the term, or cannot be planned.
+// What a reading comes to that was not refused: it takes the term, or is left, since it cannot be planned.
 #[derive(Clone, Copy)]
-pub enum Taking {
-    Refused(Refusal),
+pub enum Turn {
     Took(SoFar),
-    Not(SoFar),
+    Left(SoFar),
 }
 
 // The reading i of the list that begins at `at`.
+#[tactic(auto, using(crate::proofs::Ways::top_cell_lem))]
 pub fn top_of(buffer: &[u8], at: usize, i: u16) -> Top
     requires { ListIn buffer.now at i 1 }
     ensures { result ≡ top_of buffer.now at i }
 {
     let slot = state::get_slot(buffer, at, i);
     let x = cells::get_cell(buffer, slot.top);
-    let cell = slot.top;
     Top {
-        cell,
+        cell: slot.top,
         height: x.height,
         mark: slot.mark,
     }
@@ -44,39 +42,25 @@ pub fn top_of(buffer: &[u8], at: usize, i: u16) -> Top
 
 // The reading takes the term: its results go to the list that begins at `list`.
 pub fn take_reading(
-    table: &[u8],
-    view: View,
-    work: &mut [u8],
+    table: &Table,
+    work: &mut Work,
     list: usize,
     term: Term,
     reading: Top,
     so: SoFar,
-) -> Taking
-    requires { TakeReady table.now view work.old list reading so }
-    ensures { TakingIs (table_of table.now) term list work.old reading so work.new result }
+) -> Result<Turn, Refusal>
+    requires { TakeReady work.old list reading so }
+    ensures { TakingIs table.now term list work.old reading so work.new result }
 {
-    let before = so.chains;
-    let planned = applying::plan_reading(
-        table, view, &mut *work, MAX_CHAINS, term.class, reading, before,
-    );
-    match planned {
-        Planned::Refused(refusal) => Taking::Refused(refusal),
-        Planned::Walked { walked, chains } => {
-            let total = so.walked + walked;
-            let counts = so.counts;
-            if chains == before {
-                return Taking::Not(SoFar {
-                    counts,
-                    walked: total,
-                    chains,
-                });
-            }
-            let after = apply_reading(table, view, &mut *work, list, term, reading, counts);
-            Taking::Took(SoFar {
-                counts: after,
-                walked: total,
-                chains,
-            })
-        }
+    let planned = applying::plan_reading(table, work, MAX_CHAINS, term.class, reading, so.chains)?;
+    let turned = SoFar {
+        walked: so.walked + planned.walked,
+        chains: planned.chains,
+        ..so
+    };
+    if planned.chains == so.chains {
+        return Ok(Turn::Left(turned));
     }
+    let counts = applying::apply_reading(table, work, list, term, reading, so.counts);
+    Ok(Turn::Took(SoFar { counts, ..turned }))
 }

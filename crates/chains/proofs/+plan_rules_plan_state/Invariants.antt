@@ -1,5 +1,5 @@
 -- The measure is 2 for each chain step left, and 1 for a state. The loop over the rules keeps `SoFar`.
-use Rattle.std.proofs.Common.{◌+◌, ◌*◌, ◌-◌}
+use Rattle.std.proofs.Common.{◌+◌, ◌*◌}
 use Rattle.chains.proofs.Walking.{SoFar}
 use Rattle.chains.proofs.+plan_rules_plan_state.Given as goal
 
@@ -9,8 +9,5 @@ decreases-plan_rules l = 2 * l.from.left
 abbrev pub decreases-plan_state : goal.decreases-plan_state
 decreases-plan_state l = 2 * l.at.left + 1
 
-abbrev pub invariant-plan_rules-loop-next : goal.invariant-plan_rules-loop-next
-invariant-plan_rules-loop-next l = SoFar l.table l.ask l.stack l.initial.marks l.action l.initial.at l.marks l.at l.next
-
-abbrev pub decreases-plan_rules-loop-next : goal.decreases-plan_rules-loop-next
-decreases-plan_rules-loop-next l = l.count - l.next
+abbrev pub invariant-plan_rules-loop-rule : goal.invariant-plan_rules-loop-rule
+invariant-plan_rules-loop-rule l = SoFar l.table l.ask l.stack l.initial.marks l.fn.action l.initial.at l.marks l.at l.rule-index

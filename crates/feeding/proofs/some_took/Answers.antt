@@ -2,8 +2,8 @@
 use Rattle.feeding.proofs.Endings.{end_unplanned, some_took_holds}
 use Rattle.feeding.proofs.some_took.Goals as goal
 
-pub put_reversed-errors-requires : goal.put_reversed-errors-requires
-put_reversed-errors-requires c = search (end_unplanned)
+pub put_all-errors-requires : goal.put_all-errors-requires
+put_all-errors-requires c = search (end_unplanned)
 
 pub returns : goal.returns
 returns c = search (some_took_holds)

@@ -1,12 +1,15 @@
--- `recovery::term_taken` meets its contract. Assumes nothing.
+-- `term_taken` meets its contract. Assumes nothing.
+use Rattle.std.proofs.lemmas.Result.{err_from_is_err_and}
 use Rattle.recovery.proofs.RecoversEnds.{second_begins, second_stopped, second_came}
 use Rattle.recovery.proofs.term_taken.Goals as goal
 
-pub take_from-stage-requires : goal.take_from-stage-requires
-take_from-stage-requires c = search (second_begins)
+pub take_all-requires : goal.take_all-requires
+take_all-requires c = search (second_begins)
 
-pub returns-in-Stopped : goal.returns-in-Stopped
-returns-in-Stopped c = search (second_stopped)
+pub returns-in_err-so : goal.returns-in_err-so
+returns-in_err-so c =
+    let p = err_from_is_err_and c.from_residual.result c.from_residual.ensures.1 in
+    rw (p.1, p.2) (second_stopped _ _ c.requires _ _ c.take_all.new.work _ c.in_err-so.ensures)
 
-pub returns-in-Came : goal.returns-in-Came
-returns-in-Came c = search (second_came)
+pub returns : goal.returns
+returns c = second_came _ _ c.requires _ _ _ _ c.in_ok-so.ensures

@@ -1,21 +1,17 @@
 -- `table::check_table` meets its contract. Assumes nothing.
-use Rattle.table.proofs.Checking.{framed, actions_sound, check_right, check_start, check_content, check_frame}
+use Rattle.std.proofs.Common.{arith}
+use Rattle.std.proofs.lemmas.Grind.{common_steps}
+use Rattle.table.proofs.Checking.{framed, actions_sound, check_is}
 use Rattle.table.proofs.check_table.Goals as goal
 
 pub content_right-requires : goal.content_right-requires
 content_right-requires c = search (framed)
 
-pub find_action-start-requires : goal.find_action-start-requires
-find_action-start-requires c = search (actions_sound, framed)
+pub starts-requires : goal.starts-requires
+starts-requires c = search (actions_sound, framed)
 
-pub returns-then-start : goal.returns-then-start
-returns-then-start c = search (check_right)
-
-pub returns-then-content_right : goal.returns-then-content_right
-returns-then-content_right c = search (check_start)
-
-pub returns-then-frame_right : goal.returns-then-frame_right
-returns-then-frame_right c = search (check_content)
+pub returns-then-starts : goal.returns-then-starts
+returns-then-starts c = rw (← check_is c.args.table.now c.view_of-view.result c.view_of-view.ensures.is) (grind (arith, common_steps))
 
 pub returns : goal.returns
-returns c = search (check_frame)
+returns c = rw (← check_is c.args.table.now c.view_of-view.result c.view_of-view.ensures.is) (grind (arith, common_steps))

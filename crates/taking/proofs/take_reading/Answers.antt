@@ -1,21 +1,16 @@
 -- `take_reading` meets its contract. Assumes nothing.
-use Rattle.taking.proofs.Ways.{ready_to_plan, ready_to_apply, total_fits, left_way, took_way, refused_way}
+use Rattle.std.proofs.Common.{arith}
+use Rattle.taking.proofs.Ways.{ready_to_apply, total_fits, left_way, took_way}
 use Rattle.taking.proofs.take_reading.Goals as goal
 
-pub plan_reading-planned-requires : goal.plan_reading-planned-requires
-plan_reading-planned-requires c = search (ready_to_plan)
+pub overflow_add-turned : goal.overflow_add-turned
+overflow_add-turned c = let fits = total_fits _ _ _ c.args.term _ _ c.requires _ _ c.in_ok-planned.ensures in omega arith
 
-pub overflow_add-total : goal.overflow_add-total
-overflow_add-total c = search (total_fits)
+pub returns-then-planned-so : goal.returns-then-planned-so
+returns-then-planned-so c = left_way _ _ _ _ _ _ c.requires _ _ c.in_ok-planned.ensures c.if-planned-so.true
 
-pub returns-then-chains-before : goal.returns-then-chains-before
-returns-then-chains-before c = search (left_way)
+pub apply_reading-counts-requires : goal.apply_reading-counts-requires
+apply_reading-counts-requires c = ready_to_apply _ _ _ _ _ _ c.requires _ _ c.in_ok-planned.ensures
 
-pub apply_reading-after-requires : goal.apply_reading-after-requires
-apply_reading-after-requires c = search (ready_to_apply)
-
-pub returns-in-Refused : goal.returns-in-Refused
-returns-in-Refused c = search (refused_way)
-
-pub returns-else-chains-before : goal.returns-else-chains-before
-returns-else-chains-before c = search (took_way)
+pub returns : goal.returns
+returns c = took_way _ _ _ _ _ _ c.requires _ _ c.in_ok-planned.ensures c.if-planned-so.false _ _ c.apply_reading-counts.ensures

@@ -4,6 +4,3 @@ use Rattle.actions.proofs.popping.cell_below.Goals as goal
 
 pub get_cell-requires : goal.get_cell-requires
 get_cell-requires c = search (pops_room)
-
-pub returns : goal.returns
-returns c = cc

@@ -1,18 +1,18 @@
 -- `running::feed_right` meets its contract. Assumes nothing.
-use Rattle.by_value.proofs.Runs.{right_consumed, right_wrong, ends_ready, right_refused, right_ended}
+use Rattle.std.proofs.lemmas.Result.{err_from_is_err_and}
+use Rattle.by_value.proofs.Runs.{right_consumed, right_wrong, right_refused, right_ended}
 use Rattle.by_value.proofs.running.feed_right.Goals as goal
 
-pub returns-then-reading_count-eq0 : goal.returns-then-reading_count-eq0
-returns-then-reading_count-eq0 c = search (right_consumed)
+pub returns-then-consumed : goal.returns-then-consumed
+returns-then-consumed c = λ file f. search (right_consumed)
 
 pub returns-then-wrong_term : goal.returns-then-wrong_term
-returns-then-wrong_term c = search (right_wrong)
+returns-then-wrong_term c = λ file f. search (right_wrong)
 
-pub end_feed-requires : goal.end_feed-requires
-end_feed-requires c = search (ends_ready)
+pub returns-in_err-ended : goal.returns-in_err-ended
+returns-in_err-ended c =
+    let p = err_from_is_err_and c.from_residual.result c.from_residual.ensures.1 in
+    λ file f. rw (p.1, p.2) (search (right_refused, c.in_err-ended.was))
 
-pub returns-in-Refused : goal.returns-in-Refused
-returns-in-Refused c = search (right_refused)
-
-pub returns-in-Ended : goal.returns-in-Ended
-returns-in-Ended c = search (right_ended)
+pub returns : goal.returns
+returns c = λ file f. search (right_ended, c.in_ok-ended.was)

@@ -6,5 +6,5 @@ use Rattle.chains.proofs.filling.plan_within.Goals as goal
 pub returns : goal.returns
 returns c =
     let e = c.plan.ensures in
-    planned_within _ _ _ _ c.args.at c.args.height c.args.top.0 (c.args.at + 4096 - c.args.at) c.args.work.now _ _ c.plan.new.marks c.plan.result c.requires.inside (omega arith) c.plan.auto.marks
-    c.states_into-stack.ensures (e.answer, e.marked)
+    let x = planned_within _ c.args.at (c.args.at + 4096 - c.args.at) c.args.work.now c.plan.new.marks c.plan.result c.requires.inside (omega arith) c.plan.auto.marks (e.answer, e.marked) in
+    rw (← c.filled-stack.ensures.same) x

@@ -1,13 +1,22 @@
 -- `Machine::start` meets its contract. Assumes nothing.
-use Rattle.checks.proofs.Checks.{state_long}
-use Rattle.machine.proofs.Starts.{start_length, start_done}
+use Rattle.std.proofs.lemmas.Result.{err_from_is_err_and}
+use Rattle.machine.proofs.Lengths.{not_there, there}
+use Rattle.machine.proofs.Starts.{start_state_length, start_work_length, start_done}
 use Rattle.machine.proofs.Machine.start.Goals as goal
 
-pub start_line-answer-requires : goal.start_line-answer-requires
-start_line-answer-requires c = search (state_long)
+pub returns-in_err-state : goal.returns-in_err-state
+returns-in_err-state c =
+    let p = err_from_is_err_and c.from_residual.result c.from_residual.ensures.1 in
+    let n = not_there _ _ _ c.as_mut_array.ensures.cases _ _ c.ok_or.ensures.value _ c.in_err-state.was in
+    rw (p.1, p.2, n.1) (start_state_length _ _ _ n.0)
 
-pub returns-then-lengths_right : goal.returns-then-lengths_right
-returns-then-lengths_right c = search (start_done)
+pub returns-in_err-work : goal.returns-in_err-work
+returns-in_err-work c =
+    let p = err_from_is_err_and c.from_residual-in_err-work.result c.from_residual-in_err-work.ensures.1 in
+    let n = not_there _ _ _ c.as_mut_array-2.ensures.cases _ _ c.ok_or-2.ensures.value _ c.in_err-work.was in
+    rw (p.1, p.2, n.1) (start_work_length _ _ _ _ (there _ _ _ c.as_mut_array.ensures.cases _ _ c.ok_or.ensures.value _ c.in_ok-state.was) n.0)
 
 pub returns : goal.returns
-returns c = search (start_length)
+returns c =
+    start_done _ _ _ _ _ _ _ _ (there _ _ _ c.as_mut_array.ensures.cases _ _ c.ok_or.ensures.value _ c.in_ok-state.was)
+    (there _ _ _ c.as_mut_array-2.ensures.cases _ _ c.ok_or-2.ensures.value _ c.in_ok-work.was) c.start_line-answer.ensures c.clear.ensures

@@ -1,13 +1,12 @@
 -- `starting::start_line` meets its contract. Assumes nothing.
-use Rattle.table.proofs.Checking.{belongs_of}
-use Rattle.machine.proofs.Starts.{start_wrong, start_right}
+use Rattle.machine.proofs.Starts.{start_wrong, start_shifts, start_right}
 use Rattle.machine.proofs.starting.start_line.Goals as goal
 
-pub action_of-action-requires : goal.action_of-action-requires
-action_of-action-requires c = search (belongs_of)
+pub returns-in_default : goal.returns-in_default
+returns-in_default c = search (start_wrong)
 
-pub returns-in-Wrong : goal.returns-in-Wrong
-returns-in-Wrong c = search (start_wrong)
+pub unwrap-start-requires : goal.unwrap-start-requires
+unwrap-start-requires c = search (start_shifts)
 
-pub returns-in-Right : goal.returns-in-Right
-returns-in-Right c = search (start_right)
+pub returns : goal.returns
+returns c = search (start_right)

@@ -1,47 +1,38 @@
--- `recovery::looking::recover_one` meets its contract. Assumes nothing.
+-- `looking::recover_one` meets its contract. Assumes nothing.
+use Prim.Native.Nat.{ℕ}
 use native.Mathlib.Omega.{arith}
 use mathlib.Core.Path.{ap}
+use Rattle.std.proofs.lemmas.Result.{err_from_is_err_and}
 use Rattle.actions.specs.declared.Top.{Top}
-use Rattle.recovery.proofs.LookingOne.{one_none, one_held, ready_held, ready_take, one_refused, one_took, one_not, Left, pops_left, ready_rest, one_left}
+use Rattle.recovery.proofs.LookingOne.{one_refused, one_took, one_left, NotYet, pops_left, ready_rest, one_goes}
 use Rattle.recovery.proofs.looking.+recover_one.Goals as goal
+use Rattle.recovery.proofs.looking.+recover_one.Goals.{In-Left}
 
-pub returns-then-reading-eq0 : goal.returns-then-reading-eq0
-returns-then-reading-eq0 t c = search (one_none)
+pub returns-in_err-so : goal.returns-in_err-so
+returns-in_err-so t c =
+    let p = err_from_is_err_and c.from_residual.result c.from_residual.ensures.1 in
+    rw (p.1, p.2) (one_refused _ _ _ _ _ c.requires c.if-reading-eq0.false _ _ _ c.held.ensures c.if-held.false _ _ c.in_err-so.ensures)
 
-pub held-requires : goal.held-requires
-held-requires t c = search (ready_held)
+pub returns-in-Took : goal.returns-in-Took
+returns-in-Took t c = one_took _ _ _ _ _ c.requires c.if-reading-eq0.false _ _ _ c.held.ensures c.if-held.false _ _ c.in_ok-so.ensures _ c.in-Took.is
 
-pub returns-then-held : goal.returns-then-held
-returns-then-held t c = search (one_held)
-
-pub take_reading-taken-requires : goal.take_reading-taken-requires
-take_reading-taken-requires t c = search (ready_take)
+-- The reading cannot be planned at this height: it pops.
+not_yet : (t : ℕ) (c : In-Left t) → NotYet c.args.table.now c.args.state.now c.args.work.now c.args.waiting c.args.term c.args.reading c.args.so c.take_reading.new.work c.in-Left.so
+not_yet t c = one_left _ _ _ _ _ c.requires c.if-reading-eq0.false _ _ _ c.held.ensures c.if-held.false _ _ c.in_ok-so.ensures _ c.in-Left.is
 
 pub longer_term-longer-requires : goal.longer_term-longer-requires
-longer_term-longer-requires t c =
-    let k : Left c.args.table.now c.args.view c.args.state.now c.args.work.now c.args.waiting c.args.term c.args.reading c.args.so c.take_reading-taken.new.work c.in-Not.so = search (one_not) in
-    pops_left _ _ _ _ _ _ _ _ _ _ k
+longer_term-longer-requires t c = pops_left _ _ _ _ _ _ _ _ _ (not_yet t (goal.at.longer_term-longer-requires t c).In-Left)
 
 pub below_top-below-requires : goal.below_top-below-requires
-below_top-below-requires t c =
-    let k : Left c.args.table.now c.args.view c.args.state.now c.args.work.now c.args.waiting c.args.term c.args.reading c.args.so c.take_reading-taken.new.work c.in-Not.so = search (one_not) in
-    pops_left _ _ _ _ _ _ _ _ _ _ k
+below_top-below-requires t c = pops_left _ _ _ _ _ _ _ _ _ (not_yet t (goal.at.below_top-below-requires t c).In-Left)
 
 pub recover_one-requires : goal.recover_one-requires
 recover_one-requires t c =
-    let k : Left c.args.table.now c.args.view c.args.state.now c.args.work.now c.args.waiting c.args.term c.args.reading c.args.so c.take_reading-taken.new.work c.in-Not.so = search (one_not) in
-    let some = k.some in
+    let some = c.if-reading-eq0.false in
     let lower = c.below_top-below.ensures in
     let height = ap (λ (r : Top). r.height) lower in
-    (omega (arith, some, height), ready_rest _ _ _ _ _ _ _ _ _ _ k _ c.longer_term-longer.ensures _ lower)
+    (omega (arith, some, height), ready_rest _ _ _ _ _ _ _ _ _ (not_yet t (goal.at.recover_one-requires t c).In-Left) _ c.longer_term-longer.ensures _ lower)
 
-pub returns-in-Refused : goal.returns-in-Refused
-returns-in-Refused t c = search (one_refused)
-
-pub returns-in-Took : goal.returns-in-Took
-returns-in-Took t c = search (one_took)
-
-pub returns-in-Not : goal.returns-in-Not
-returns-in-Not t c =
-    let k : Left c.args.table.now c.args.view c.args.state.now c.args.work.now c.args.waiting c.args.term c.args.reading c.args.so c.take_reading-taken.new.work c.in-Not.so = search (one_not) in
-    one_left _ _ _ _ _ _ _ _ _ _ k _ c.longer_term-longer.ensures _ c.below_top-below.ensures c.recover_one.new.work c.recover_one.result c.recover_one.ensures
+pub returns-in-Left : goal.returns-in-Left
+returns-in-Left t c =
+    one_goes _ _ _ _ _ _ _ _ _ (not_yet t (goal.at.returns-in-Left t c).In-Left) _ c.longer_term-longer.ensures _ c.below_top-below.ensures _ _ c.recover_one.ensures

@@ -1,6 +1,11 @@
 -- `table::actions::action_right` meets its contract. Assumes nothing.
-use Rattle.table.proofs.ActionLaws.{action_tested}
+use Rattle.std.proofs.Common.{arith}
+use Rattle.std.proofs.lemmas.Grind.{common_steps}
+use Rattle.table.proofs.ActionLaws.{action_raw}
 use Rattle.table.proofs.actions.action_right.Goals as goal
 
-pub returns : goal.returns
-returns c = search (action_tested)
+pub returns-then-head_right : goal.returns-then-head_right
+returns-then-head_right c = rw (action_raw c.args.counts c.args.table.now c.args.p) (grind (arith, common_steps))
+
+pub returns-else-head_right : goal.returns-else-head_right
+returns-else-head_right c = rw (action_raw c.args.counts c.args.table.now c.args.p) (grind (arith, common_steps))

@@ -1,8 +1,7 @@
 -- `table::frame::view_of` meets its contract. Assumes nothing.
 use Rattle.meaning.specs.TableFile.{view_of}
-use native.Mathlib.Omega.{arith}
 use Rattle.table.proofs.frame.view_of.Goals as goal
 
-pub returns : goal.returns
+pub returns-clause-is : goal.returns-clause-is
 unfolding view_of
-returns c = (cc, omega arith)
+returns-clause-is c = cc

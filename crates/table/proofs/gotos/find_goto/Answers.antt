@@ -1,32 +1,24 @@
--- `table::gotos::find_goto` meets its contract: no record passed has the pair that is wanted, and what is left is right. Assumes nothing.
-use native.Mathlib.Omega.{arith}
-use borrow.Author.Rules.{rules}
-use Rattle.meaning.specs.TableFile.{goto_at}
+-- `table::gotos::find_goto` meets its contract. Assumes nothing.
+use mathlib.Core.Path.{ap, ◌∙◌}
+use Rattle.std.specs.Prelude.{None}
+use Rattle.std.proofs.Common.{Some}
+use Rattle.meaning.specs.TableFile.{state_no, goto_at}
 use Rattle.meaning.specs.TableRight.{goto_format}
-use Rattle.table.proofs.GotoLaws.{goto_key, goto_bytes, answer_to, answer_nothing}
-use Rattle.table.proofs.Search.{scan_start, scan_end, scan_fits, scan_found, scan_past, scan_next}
+use Rattle.table.specs.Answers.{goto_answer}
+use Rattle.table.proofs.Placed.{placed_ordered, placed_some, placed_none}
 use Rattle.table.proofs.gotos.find_goto.Goals as goal
 
-pub loop-at-init : goal.loop-at-init
-loop-at-init c = search (scan_start)
+pub find-requires : goal.find-requires
+find-requires c = placed_ordered (goto_format c.args.table.now) _ _ _ _ c.requires
 
-pub key_at-key-requires : goal.key_at-key-requires
-unfolding goto_format
-key_at-key-requires c = omega (arith, scan_fits _ _ _ _ _ _ _ _ c.loop-at.invariant c.loop-at-test.true, c.requires.ends)
-
-pub get16-requires : goal.get16-requires
-unfolding goto_format
-get16-requires c = omega (arith, scan_fits _ _ _ _ _ _ _ _ c.loop-at.invariant c.loop-at-test.true, c.requires.ends)
-
-pub returns-then-wanted-key-2 : goal.returns-then-wanted-key-2
-unfolding goto_format goto_at
-returns-then-wanted-key-2 c = answer_to _ _ _ c.get16.ensures (search (scan_found, goto_key, rules))
-
-pub returns-then-wanted-key : goal.returns-then-wanted-key
-returns-then-wanted-key c = answer_nothing _ (search (scan_past, goto_key))
-
-pub loop-at-preserved : goal.loop-at-preserved
-loop-at-preserved c = search (scan_next, goto_key, goto_bytes)
+pub returns-in_err-p : goal.returns-in_err-p
+unfolding goto_answer
+returns-in_err-p c =
+    c.from_residual.ensures
+    ∙ ap goto_answer (placed_none (goto_format c.args.table.now c.args.view.counts) (λ g. Some g.target) None _ _ _ _ _ (c.find.ensures.is c.args.view.counts) c.in_err-p.was)
 
 pub returns : goal.returns
-returns c = answer_nothing _ (search (scan_end))
+unfolding goto_answer goto_format goto_at
+returns c =
+    ap (λ y. Some (state_no y)) c.get16.ensures
+    ∙ ap goto_answer (placed_some (goto_format c.args.table.now c.args.view.counts) (λ g. Some g.target) None _ _ _ _ _ (c.find.ensures.is c.args.view.counts) _ c.in_ok-p.was)

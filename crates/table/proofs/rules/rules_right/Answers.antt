@@ -1,17 +1,13 @@
 -- `table::rules::rules_right` meets its contract. Assumes nothing.
+use Rattle.std.proofs.Common.{arith}
 use Rattle.table.proofs.RuleLaws.{rules_more, rules_bad, rules_none}
-use mathlib.Core.Path.{refl}
-use native.Mathlib.Omega.{arith}
 use Rattle.table.proofs.rules.rules_right.Goals as goal
 
-pub loop-left-init : goal.loop-left-init
-loop-left-init c = (omega arith, refl)
+pub returns-then-not-rule_right : goal.returns-then-not-rule_right
+returns-then-not-rule_right c = rules_bad _ _ _ _ _ _ c.loop-i.invariant _ _ (omega arith) c.rule_at.ensures c.rule_right.ensures c.if-not-rule_right.true
 
-pub loop-left-preserved : goal.loop-left-preserved
-loop-left-preserved c = (omega arith, search (rules_more))
-
-pub returns-else-rule_right : goal.returns-else-rule_right
-returns-else-rule_right c = search (rules_bad)
+pub loop-i-preserved : goal.loop-i-preserved
+loop-i-preserved c = rules_more _ _ _ _ _ _ c.loop-i.invariant _ _ (omega arith) c.rule_at.ensures c.rule_right.ensures c.if-not-rule_right.false
 
 pub returns : goal.returns
-returns c = search (rules_none)
+returns c = rules_none _ _ _ _ _ _ c.loop-i.invariant (omega arith)

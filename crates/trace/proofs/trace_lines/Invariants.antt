@@ -1,5 +1,0 @@
--- `trace::trace_lines` is safe and ends: the measure is the number of turns that are left. Assumes nothing.
-use Rattle.trace.proofs.trace_lines.Given as goal
-
-abbrev pub decreases-loop-turns : goal.decreases-loop-turns
-decreases-loop-turns l = l.turns
