@@ -8,6 +8,7 @@ ghost use Rattle.applying_runs.specs.Found.{Found};
 use actions::errors::get_error;
 use actions::{Counts, Top};
 use cells::Cell;
+use host::GoingOn;
 use meaning::{CellNo, ErrorRecord, MAX_CHAINS, MAX_ERRORS, MAX_READINGS, StateNo, Term};
 use state::{RESULTS_AT, Slot, Work};
 use std::io;
@@ -243,22 +244,31 @@ fn run_line(rt: &impl Print, table: &Table, value: u32) -> io::Result<()> {
     Ok(())
 }
 
-fn run(rt: &HostRuntime, case: Case) -> io::Result<()> {
+fn run(rt: &HostRuntime, out: &impl Print, case: Case) -> io::Result<()> {
     let Some(mut file) = host::open(rt, case.table.as_bytes()) else {
         return Ok(());
     };
     let mut bytes = [0; 4096];
     let n = host::read_full(&mut file, &mut bytes);
-    println!(rt; "{}", case.title)?;
+    println!(out; "{}", case.title)?;
     match Table::check(&bytes[..n]) {
-        Some(table) => run_line(rt, &table, case.value),
-        None => println!(rt; "  wrong table"),
+        Some(table) => run_line(out, &table, case.value),
+        None => println!(out; "  wrong table"),
     }
 }
 
-// What cannot be written is not said anywhere else, and the exit status is 0.
-fn main(rt: HostRuntime) {
+fn run_all(rt: &HostRuntime, out: &impl Print) -> io::Result<()> {
     for case in CASES {
-        let _ = run(&rt, case);
+        run(rt, out, case)?;
     }
+    Ok(())
+}
+
+// What cannot be written is passed over, and the exit status is 0.
+fn main(rt: HostRuntime) {
+    let out = GoingOn {
+        rt: &rt,
+        says: false,
+    };
+    let _ = run_all(&rt, &out);
 }

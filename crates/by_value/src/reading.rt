@@ -85,7 +85,7 @@ fn stack_right(state: &State, number: u16) -> Result<StackRead, Refusal>
 fn stack_found(table: &[u8], state: &State, number: u16) -> Result<StackRead, Refusal>
     ensures { ReadPromise (stack_on true table.now state.now number) (handed_read result) }
 {
-    checks::find(table, state)?;
+    checks::find_table(table, state)?;
     stack_right(state, number)
 }
 

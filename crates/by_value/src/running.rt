@@ -99,7 +99,7 @@ fn feed_found(
 ) -> Result<FeedRun, Refusal>
     ensures { RunLine table.now state.old (feed_line table.now state.old term) (handed_run result) state.new }
 {
-    let table = checks::find(table, state)?;
+    let table = checks::find_table(table, state)?;
     feed_right(&table, state, work, term)
 }
 

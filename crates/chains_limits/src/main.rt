@@ -6,6 +6,7 @@ ghost use Rattle.std.specs.Prelude.{◌<◌, ◌≤◌, length};
 
 use cells::Cell;
 use chains::Planned;
+use host::GoingOn;
 use meaning::{CellNo, MAX_HEIGHT, QuestionAnswer, Refusal, StateNo};
 use std::{fmt, io};
 use table::Table;
@@ -331,24 +332,28 @@ fn read(rt: &HostRuntime, path: &str, bytes: &mut [u8]) -> usize
     }
 }
 
-fn run(rt: &HostRuntime, case: Case) -> io::Result<()> {
+fn run(rt: &HostRuntime, out: &impl Print, case: Case) -> io::Result<()> {
     let mut bytes = [0; 4096];
     let n = read(rt, case.table, &mut bytes);
-    print!(rt; "{}", case.title)?;
+    print!(out; "{}", case.title)?;
     match Table::check(&bytes[..n]) {
-        Some(table) => answer(rt, &table, case),
-        None => println!(rt; ": wrong table"),
+        Some(table) => answer(out, &table, case),
+        None => println!(out; ": wrong table"),
     }
 }
 
-fn run_all(rt: &HostRuntime) -> io::Result<()> {
+fn run_all(rt: &HostRuntime, out: &impl Print) -> io::Result<()> {
     for case in CASES {
-        run(rt, case)?;
+        run(rt, out, case)?;
     }
     Ok(())
 }
 
-// What cannot be written is not said anywhere else, and the exit status is 0.
+// What cannot be written is passed over, and the exit status is 0.
 fn main(rt: HostRuntime) {
-    let _ = run_all(&rt);
+    let out = GoingOn {
+        rt: &rt,
+        says: false,
+    };
+    let _ = run_all(&rt, &out);
 }

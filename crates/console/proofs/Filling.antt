@@ -27,7 +27,7 @@ is_plain b = not (eqb b 10)
 abbrev all_turns : ℕ
 all_turns = 18446744073709551615
 
--- So far: these bytes, none of them a line feed, were taken in; the line has them, and they are counted.
+-- So far: these bytes, none of them a line feed, were taken in; the line has them, and they are counted; so many turns are left.
 pub record Filling (piece₀ : List ℕ) (rest₀ : Rest) (line₀ piece : List ℕ) (rest : Rest) (line : List ℕ) (n turns : ℕ) : Type 0 where
   pub bytes : List ℕ
   pub no_feed : every is_plain bytes ≡ true
@@ -35,9 +35,9 @@ pub record Filling (piece₀ : List ℕ) (rest₀ : Rest) (line₀ piece : List 
   pub holds : line ≡ sets line₀ 0 (take line_room bytes)
   pub short : length bytes ≤ line_room → n ≡ length bytes
   pub long : line_room < length bytes → n ≡ line_room + 1
-  pub turned : length bytes ≡ turns
+  pub turned : length bytes + turns ≡ all_turns
 
-pub filling_begins : (piece : List ℕ) (rest : Rest) (line : List ℕ) → Filling piece rest line piece rest line 0 0
+pub filling_begins : (piece : List ℕ) (rest : Rest) (line : List ℕ) → Filling piece rest line piece rest line 0 all_turns
 unfolding Taken
 filling_begins piece rest line = record { bytes = []; no_feed = refl; taken = (refl, refl); holds = refl; short = λ h. refl; long = λ h. absurd (omega arith); turned = refl }
 
@@ -140,8 +140,8 @@ module _ (piece₀ : List ℕ) (rest₀ : Rest) (line₀ piece : List ℕ) (rest
     fetched : Fetched piece rest (Some (record { byte = b; rest = rest' })) piece'
     fetched = subst (λ (x : Option Byte). Fetched piece rest x piece') e g
 
-    pub filling_on : (b ≡ 10 → ⊥) → (n' : ℕ) (line' : List ℕ) → PutIs line n b n' line' → Filling piece₀ rest₀ line₀ piece' rest' line' n' (turns + 1)
-    filling_on d n' line' p =
+    pub filling_on : (b ≡ 10 → ⊥) → (n' : ℕ) (line' : List ℕ) → PutIs line n b n' line' → 0 < turns → Filling piece₀ rest₀ line₀ piece' rest' line' n' (turns - 1)
+    filling_on d n' line' p some_left =
         let j = length-append f.bytes (b ∷ []) in
         let turned = f.turned in
         record {
@@ -200,8 +200,8 @@ module _ (piece₀ : List ℕ) (rest₀ : Rest) (line₀ piece : List ℕ) (rest
   }
 
   -- no turn is left
-  pub ends_late : all_turns ≤ turns → turns ≤ all_turns → LineIs piece₀ rest₀ line₀ None piece line
-  ends_late h k = let turned = f.turned in record { bytes = f.bytes; no_feed = f.no_feed; holds = f.holds; ends = inr (inr (omega arith, refl)) }
+  pub ends_late : turns ≤ 0 → LineIs piece₀ rest₀ line₀ None piece line
+  ends_late h = let turned = f.turned in record { bytes = f.bytes; no_feed = f.no_feed; holds = f.holds; ends = inr (inr (omega arith, refl)) }
 
 -- What is given as a line is the bytes up to the line feed or the end of the input, without a carriage return at their end.
 abbrev IsLine : (bytes : List ℕ) (n : ℕ) → Type 0

@@ -24,6 +24,10 @@ digit_of b =
     else if leb 65 b && leb b 70 then Some (b - 55)
     else None
 
+-- A decimal digit's.
+abbrev pub decimal_of : (byte : ℕ) → Option ℕ
+decimal_of b = if leb 48 b && leb b 57 then Some (b - 48) else None
+
 -- The decimal digits at the front of a text, and the number that they are, with v before them.
 abbrev pub digit_then : Option ℕ → List ℕ → List ℕ
 digit_then None ds = []
@@ -44,8 +48,9 @@ greatest = 4294967295
 abbrev pub fitting : ℕ → Option ℕ
 fitting v = if leb v greatest then Some v else None
 
-abbrev pub grown_by : (value : Option ℕ) (digit : ℕ) → Option ℕ
-grown_by value d = option_and_then (λ v. fitting (v * 10 + d)) value
+-- With one digit more; a number that is too great only stays so.
+abbrev pub grown_by : (value digit : ℕ) → ℕ
+grown_by v d = if leb v greatest then v * 10 + d else v
 
 pub record ScanIs (text : List ℕ) (r : Scan) : Type 0 where
   pub count : r.count ≡ length (digits text)

@@ -77,7 +77,11 @@ fn next_byte(rt: &HostRuntime, piece: &mut Piece, rest: Rest) -> Option<Byte>
     ensures { Fetched piece.old rest result piece.new }
 {
     let at = rest.at;
-    if rest.end <= at || PIECE <= at {
+    // Two tests, of which only the first is left in the machine code: a piece ends by its place's end.
+    if rest.end <= at {
+        return refill(rt, piece);
+    }
+    if PIECE <= at {
         return refill(rt, piece);
     }
     Some(Byte {
@@ -127,7 +131,8 @@ pub fn next_line(rt: &HostRuntime, piece: &mut Piece, rest: Rest, line: &mut Lin
 {
     let mut rest = rest;
     let mut length = 0;
-    for _ in 0..u64::MAX {
+    let mut turns = u64::MAX;
+    while turns > 0 {
         let Some(next) = next_byte(rt, piece, rest) else {
             return ended_input(line, length, rest);
         };
@@ -136,6 +141,7 @@ pub fn next_line(rt: &HostRuntime, piece: &mut Piece, rest: Rest, line: &mut Lin
             return Some(ended_line(line, length, rest));
         }
         length = put(line, length, next.byte);
+        turns -= 1;
     }
     None
 }

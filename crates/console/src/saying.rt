@@ -3,12 +3,12 @@ use std::io;
 
 pub fn line(rt: &impl Print, words: &[u8]) -> io::Result<()> {
     rt.write_all(words)?;
-    println!(rt)
+    rt.write_all(b"\n")
 }
 
 // A line that is not what it should be.
 pub fn not_right(rt: &impl Print, why: &str, given: &[u8]) -> io::Result<()> {
-    print!(rt; "{why}")?;
+    rt.write_all(why.as_bytes())?;
     line(rt, given)
 }
 

@@ -1,9 +1,12 @@
 // What stands in a line: words, numbers with blanks between two, terms.
 ghost use Rattle.std.specs.Prelude.{◌≡◌};
-ghost use Rattle.console.specs.Text.{digit_of, grown_by, ScanIs, number_at, last_at, last_number, short_of, term_at, behind_word};
+ghost use Rattle.console.specs.Text.{digit_of, decimal_of, fitting, grown_by, ScanIs, number_at, last_at, last_number, short_of, term_at, behind_word};
 
 use super::blanks::{from, past_blanks};
 use meaning::Term;
+
+// The greatest number of 32 bits.
+const GREATEST: u64 = 4294967295;
 
 // A number of 32 bits that was read, and where the line goes on.
 #[derive(Clone, Copy)]
@@ -31,11 +34,34 @@ pub fn digit(byte: u8) -> Option<u8>
     }
 }
 
-// The number with one decimal digit more.
-fn grown(value: Option<u32>, digit: u8) -> Option<u32>
+// A decimal digit's value.
+fn decimal(byte: u8) -> Option<u8>
+    ensures { result ≡ decimal_of byte }
+{
+    match byte {
+        b'0'..=b'9' => Some(byte - 48),
+        _ => None,
+    }
+}
+
+// The number with one decimal digit more; one that is too great only stays so.
+fn grown(value: u64, digit: u8) -> u64
     ensures { result ≡ grown_by value digit }
 {
-    value?.checked_mul(10)?.checked_add(u32::from(digit))
+    if value > GREATEST {
+        return value;
+    }
+    value * 10 + u64::from(digit)
+}
+
+// So many digits of this number.
+fn scan_of(value: u64, count: usize) -> Scan
+    ensures { result ≡ record { value = fitting value; count = count } }
+{
+    Scan {
+        value: u32::try_from(value).ok(),
+        count,
+    }
 }
 
 // The decimal digits at a text's front.
@@ -43,17 +69,14 @@ fn grown(value: Option<u32>, digit: u8) -> Option<u32>
 fn scanned(text: &[u8]) -> Scan
     ensures { ScanIs text.now result }
 {
-    let mut value = Some(0);
+    let mut value = 0;
     for (count, byte) in text.iter().enumerate() {
-        match digit(*byte) {
-            Some(d) if d < 10 => value = grown(value, d),
-            _ => return Scan { value, count },
-        }
+        let Some(d) = decimal(*byte) else {
+            return scan_of(value, count);
+        };
+        value = grown(value, d);
     }
-    Scan {
-        value,
-        count: text.len(),
-    }
+    scan_of(value, text.len())
 }
 
 // The number from a place on, of at least one digit, and past the blanks after it.
@@ -115,8 +138,11 @@ pub fn term_at(line: &[u8], at: usize) -> Option<Term>
 pub fn behind_word(line: &[u8], word: &[u8]) -> Option<usize>
     ensures { result ≡ behind_word line.now word.now }
 {
+    if !line.starts_with(word) {
+        return None;
+    }
     let end = word.len();
     let next = past_blanks(line, end);
-    let ends = line.starts_with(word) && (end < next || line.len() <= end);
+    let ends = end < next || line.len() <= end;
     ends.then_some(next)
 }

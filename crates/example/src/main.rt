@@ -1,6 +1,7 @@
 // A line of two terms on the sample table, and its first reading. This file is the whole program: Rattle proves it with no other.
 #![tactic(auto)]
 
+use host::GoingOn;
 use machine::Machine;
 use meaning::{Entry, ErrorRecord, FeedNumbers, HEIGHTS, StackNumbers, StartNumbers, Term};
 use std::io;
@@ -32,31 +33,32 @@ fn run(rt: &impl Print) -> io::Result<()> {
     for term in TERMS {
         let answer = Machine::feed(&table, &mut state, &mut work, term, &mut errors);
         let fed = FeedNumbers::from(answer);
-        println!(rt;
-            "feed: answer {}, errors {}, reductions {}",
-            fed.answer, fed.errors, fed.walked
-        )?;
+        print!(rt; "feed: answer {}", fed.answer)?;
+        print!(rt; ", errors {}", fed.errors)?;
+        println!(rt; ", reductions {}", fed.walked)?;
     }
 
     let mut entries = [Entry::default(); HEIGHTS];
     let answer = Machine::stack(&table, &state, 0, &mut entries);
     let stack = StackNumbers::from(answer);
-    println!(rt;
-        "reading: answer {}, height {}, mark {}",
-        stack.answer, stack.height, stack.mark
-    )?;
+    print!(rt; "reading: answer {}", stack.answer)?;
+    print!(rt; ", height {}", stack.height)?;
+    println!(rt; ", mark {}", stack.mark)?;
     // The entries, the top first.
     for entry in entries.iter().take(usize::from(stack.height)) {
-        println!(rt;
-            "  state {}, value {}, from {} to {}",
-            entry.state.0, entry.value, entry.start, entry.end
-        )?;
+        print!(rt; "  state {}", entry.state.0)?;
+        print!(rt; ", value {}", entry.value)?;
+        print!(rt; ", from {}", entry.start)?;
+        println!(rt; " to {}", entry.end)?;
     }
     Ok(())
 }
 
+// What cannot be written is said on standard error.
 fn main(rt: HostRuntime) {
-    if let Err(error) = run(&rt) {
-        let _ = eprintln!(rt; "standard output: {error}");
-    }
+    let out = GoingOn {
+        rt: &rt,
+        says: true,
+    };
+    let _ = run(&out);
 }

@@ -1,9 +1,10 @@
-// Files by name, standard error and the count of the arguments, for the programs. What a file holds stands in no contract below them, so only the count of bytes is promised.
+// Files by name, standard error, standard output for programs that go on where a write fails, and the count of the arguments. What a file holds and what a write puts out stand in no contract below them, so only the count of bytes read is promised, and that such a program goes on.
 #![tactic(auto)]
 
-ghost use Rattle.std.specs.Prelude.{◌≤◌, length};
+ghost use Rattle.std.specs.Prelude.{◌≤◌, length, IsOk};
 
 use std::env::{Env, FillError};
+use std::fmt::Display;
 use std::fs::File;
 use std::io;
 use std::io::{ErrorKind, Read};
@@ -13,6 +14,46 @@ pub fn fail(rt: &HostRuntime, what: &[u8], error: &io::Error) {
     let out = rt.stderr();
     let _ = out.write_all(what);
     let _ = out.println(format_args!(": {error}"));
+}
+
+// Standard output, where a write that fails counts as written, so that all that comes after it is tried too: it is passed over, or said on standard error.
+#[derive(Clone, Copy)]
+pub struct GoingOn<'a> {
+    pub rt: &'a HostRuntime,
+    pub says: bool,
+}
+
+impl<'a> GoingOn<'a> {
+    fn past(&self, written: io::Result<()>) -> io::Result<()>
+        ensures { IsOk result }
+    {
+        if let Err(error) = &written
+            && self.says
+        {
+            fail(self.rt, b"standard output", error);
+        }
+        Ok(())
+    }
+}
+
+impl<'a> Print for GoingOn<'a> {
+    fn print<D: Display + Drop>(&self, value: D) -> io::Result<()>
+        ensures { IsOk result }
+    {
+        self.past(self.rt.print(value))
+    }
+
+    fn println<D: Display + Drop>(&self, value: D) -> io::Result<()>
+        ensures { IsOk result }
+    {
+        self.past(self.rt.println(value))
+    }
+
+    fn write_all(&self, bytes: &[u8]) -> io::Result<()>
+        ensures { IsOk result }
+    {
+        self.past(self.rt.write_all(bytes))
+    }
 }
 
 // A file's name is text here: another one names no file.

@@ -18,6 +18,7 @@ pub(super) enum Question {
 }
 
 // Consumed is no, before the class is looked at.
+#[tactic(auto, using(crate::proofs::Asks::takes_consumed, crate::proofs::Asks::takes_wrong, crate::proofs::Asks::takes_asked))]
 fn takes_right(table: &Table, state: &State, class: u16, marks: &mut [u8]) -> QuestionAnswer
     requires { AsksState table.now.counts.states state.now marks.old }
     ensures { result ≡ takes_right table.now class (readings_of state.now) }
@@ -52,6 +53,6 @@ pub(super) fn ask(
     requires { MarksLine marks.old }
     ensures { result ≡ asked_on table.now state.now question true }
 {
-    let table = checks::find(table, state)?;
+    let table = checks::find_table(table, state)?;
     ask_right(&table, state, marks, question)
 }

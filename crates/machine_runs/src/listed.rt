@@ -32,7 +32,9 @@ pub fn term(class: u16, value: u32, start: u32, end: u32) -> Term {
 
 pub fn say_record(rt: &impl Print, before: &str, record: ErrorRecord) -> io::Result<()> {
     let state = record.state;
-    print!(rt; "{before}{},{},{}", record.rule, state.0, record.mark)
+    print!(rt; "{before}{}", record.rule)?;
+    print!(rt; ",{}", state.0)?;
+    print!(rt; ",{}", record.mark)
 }
 
 // The first places and the last.
@@ -45,10 +47,10 @@ fn say_records(rt: &impl Print, errors: [ErrorRecord; Machine::ERRORS]) -> io::R
 
 pub fn say_entry(rt: &impl Print, before: &str, entry: Entry) -> io::Result<()> {
     let state = entry.state;
-    print!(rt;
-        "{before}{},{},{},{}",
-        state.0, entry.value, entry.start, entry.end
-    )
+    print!(rt; "{before}{}", state.0)?;
+    print!(rt; ",{}", entry.value)?;
+    print!(rt; ",{}", entry.start)?;
+    print!(rt; ",{}", entry.end)
 }
 
 // The first places and the last.
@@ -63,19 +65,17 @@ fn say_entries(rt: &impl Print, entries: [Entry; HEIGHTS]) -> io::Result<()> {
 // The answer, the count of error records, the reductions walked.
 pub fn say_fed(rt: &impl Print, answer: FeedAnswer) -> io::Result<()> {
     let numbers = FeedNumbers::from(answer);
-    print!(rt;
-        " gives {} {} {}",
-        numbers.answer, numbers.errors, numbers.walked
-    )
+    print!(rt; " gives {}", numbers.answer)?;
+    print!(rt; " {}", numbers.errors)?;
+    print!(rt; " {}", numbers.walked)
 }
 
 // The answer, the height, the mark.
 pub fn say_read(rt: &impl Print, answer: StackAnswer) -> io::Result<()> {
     let numbers = StackNumbers::from(answer);
-    print!(rt;
-        " gives {} {} {}",
-        numbers.answer, numbers.height, numbers.mark
-    )
+    print!(rt; " gives {}", numbers.answer)?;
+    print!(rt; " {}", numbers.height)?;
+    print!(rt; " {}", numbers.mark)
 }
 
 pub fn say_work(rt: &impl Print, work: &Work) -> io::Result<()> {
@@ -94,10 +94,10 @@ fn feed(
     work: &mut Work,
     term: Term,
 ) -> io::Result<()> {
-    print!(rt;
-        "  feed {} {} {} {}",
-        term.class, term.value, term.start, term.end
-    )?;
+    print!(rt; "  feed {}", term.class)?;
+    print!(rt; " {}", term.value)?;
+    print!(rt; " {}", term.start)?;
+    print!(rt; " {}", term.end)?;
     work[0] = 9;
     work[Machine::WORK_LENGTH - 1] = 9;
     let fed = lending::feed_listed(table, state, work, term, [RECORD; Machine::ERRORS]);

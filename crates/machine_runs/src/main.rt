@@ -1,7 +1,8 @@
 // Makes every call of the machine, on tables, states, lengths and classes that are right and that are not.
 #![tactic(auto)]
 
-use console::{State, Work, saying};
+use console::{State, Work};
+use host::GoingOn;
 use machine::Machine;
 use meaning::{QuestionAnswer, StartAnswer, StartNumbers};
 use std::io;
@@ -10,7 +11,8 @@ mod listed;
 mod wrong;
 
 fn say_start(rt: &impl Print, answer: StartAnswer) -> io::Result<()> {
-    println!(rt; "  start {}", StartNumbers::from(answer).answer)
+    print!(rt; "  start")?;
+    println!(rt; " {}", StartNumbers::from(answer).answer)
 }
 
 fn say_question(rt: &impl Print, answer: QuestionAnswer) -> io::Result<()> {
@@ -83,18 +85,23 @@ fn run_table(rt: &impl Print, table: &[u8]) -> io::Result<()> {
     wrong::lengths(rt, table, &mut state, &mut work)
 }
 
-fn run(rt: &HostRuntime) -> io::Result<()> {
+fn run(rt: &HostRuntime, out: &impl Print) -> io::Result<()> {
     for name in ["T1", "T2", "T4", "cut"] {
         if let Some(mut file) = host::open(rt, name.as_bytes()) {
             let mut bytes = [0; 4096];
             let n = host::read_full(&mut file, &mut bytes);
-            println!(rt; "{name}")?;
-            run_table(rt, &bytes[..n])?;
+            println!(out; "{name}")?;
+            run_table(out, &bytes[..n])?;
         }
     }
     Ok(())
 }
 
+// Each write that fails is said on standard error, and the exit status is 0.
 fn main(rt: HostRuntime) {
-    saying::end(&rt, run(&rt));
+    let out = GoingOn {
+        rt: &rt,
+        says: true,
+    };
+    let _ = run(&rt, &out);
 }

@@ -19,7 +19,8 @@ fn feed_short_work(
     print!(rt; "  feed")?;
     listed::say_fed(rt, fed.answer)?;
     listed::say_record(rt, ": ", fed.errors[0])?;
-    println!(rt; "; work {} .. {}", work[0], work[Machine::WORK_LENGTH - 2])
+    print!(rt; "; work {}", work[0])?;
+    println!(rt; " .. {}", work[Machine::WORK_LENGTH - 2])
 }
 
 // One byte is missing from the work area: every call that has one.

@@ -87,9 +87,6 @@ impl Current {
     }
 
     pub fn answer(&mut self, rt: &HostRuntime, line: &[u8]) -> io::Result<()> {
-        if commands::skipped(line) {
-            return Ok(());
-        }
         if commands::is_case(line) {
             self.forget();
             return saying::line(rt, line);

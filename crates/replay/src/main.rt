@@ -22,7 +22,12 @@ fn run(rt: &HostRuntime) -> io::Result<()> {
         };
         rest = next.rest;
         match next.length {
-            Some(length) => current.answer(rt, blanks::trimmed(lines::first(&line, length)))?,
+            Some(length) => {
+                let line = blanks::trimmed(lines::first(&line, length));
+                if !commands::skipped(line) {
+                    current.answer(rt, line)?;
+                }
+            }
             None => current.too_long(rt, blanks::trimmed(&line))?,
         }
     }

@@ -1,10 +1,10 @@
 -- Load: the loop, and what callers have of it: the same cells below the count, so the same stacks; everything behind them is kept. Assumes nothing.
-use mathlib.Core.Path.{◌≡◌, ap, ◌∙◌}
+use mathlib.Core.Path.{◌≡◌, ap, sym, ◌∙◌}
 use mathlib.Core.List.{List, ◌++◌}
-use Prim.Native.Nat.{ℕ, ◌+◌, ◌-◌, ◌*◌, ◌<◌}
+use Prim.Native.Nat.{ℕ, suc, ◌+◌, ◌-◌, ◌*◌, ◌<◌}
 use native.Mathlib.Omega.{arith}
-use lib.ListN.{length, take, drop, length-append, length-drop, get_or-append}
-use lib.Seq.{length-take-le, get_or-append-add, get_or-take, get_or-drop}
+use lib.ListN.{length, set, take, drop, length-append, length-drop, get_or-append}
+use lib.Seq.{length-take-le, take-suc, drop-cons, append_snoc, set_at, get_or-append-add, get_or-take, get_or-drop}
 use Rattle.meaning.specs.Bytes.{byte_at}
 use Rattle.numbers.specs.Writing.{Agree}
 use Rattle.cells.specs.Pool.{cell_size, cell_at}
@@ -16,10 +16,17 @@ use Rattle.state.specs.Layout.{readings_at}
 use Rattle.state.specs.Readings.{used_of, slot_at, top_at, height_at, reading_of, reading_at, StandsAt}
 use Rattle.state.specs.Areas.{loaded, LoadReady}
 
+-- One byte more.
+pub load_more : (s w t : List ℕ) (i : ℕ) → i < length s → i < length w → t ≡ take i s ++ drop i w → set t i (byte_at s i) ≡ take (i + 1) s ++ drop (i + 1) w
+load_more s w t i a b e =
+    let u : i + 1 ≡ suc i = omega arith in
+    rw (e, u, drop-cons w i 0 b, take-suc s i 0 a)
+    (set_at (take i s) (byte_at w i) (drop (suc i) w) (byte_at s i) i (length-take-le i s (omega arith)) ∙ sym (append_snoc (take i s) (byte_at s i) (drop (suc i) w)))
+
 -- What was copied, and what stands behind it.
-pub load_done : (s w front : List ℕ) (n : ℕ) → n ≡ used_of s → front ≡ take (cell_size * n) s → front ++ drop (cell_size * n) w ≡ loaded s w
+pub load_done : (s w t : List ℕ) (n i : ℕ) → n ≡ used_of s → i ≡ cell_size * n → t ≡ take i s ++ drop i w → t ≡ loaded s w
 unfolding loaded
-load_done s w front n e f = rw (f, e)
+load_done s w t n i e f g = rw (f, e) at g
 
 module _ (s w : List ℕ) (y : LoadReady s w) where
   front : length (take (cell_size * used_of s) s) ≡ cell_size * used_of s

@@ -156,12 +156,15 @@ pub fn held_by_others(
 }
 
 // The cells in use go to the same numbers of the work area's pool; its other bytes are kept.
+#[tactic(auto, using(crate::proofs::Loading::load_more, crate::proofs::Loading::load_done))]
 pub fn load(state: &State, work: &mut Work)
     requires { used_of state.now ≤ state_cells }
     ensures { work.new ≡ loaded state.now work.old }
 {
     let end = cells::CELL_SIZE * usize::from(cells_in_use(state));
-    work[..end].copy_from_slice(&state[..end]);
+    for i in 0..end {
+        work[i] = state[i];
+    }
 }
 
 // One reading, one entry with this state: the state of a new line.

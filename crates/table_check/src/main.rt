@@ -2,6 +2,7 @@
 #![tactic(auto)]
 
 use faults::Broken;
+use host::GoingOn;
 use meaning::View;
 use std::env::Env;
 use std::io;
@@ -50,11 +51,13 @@ fn print_broken(rt: &impl Print, broken: Broken, length: usize) -> io::Result<()
     Ok(())
 }
 
+// Whether the line of a file could be written is told by its end.
 fn print_check(rt: &HostRuntime, name: &[u8], bytes: &[u8]) -> io::Result<()> {
-    rt.write_all(name)?;
+    let out = GoingOn { rt, says: false };
+    out.write_all(name)?;
     match faults::diagnose(bytes) {
-        Ok(()) => print_right(rt, bytes)?,
-        Err(broken) => print_broken(rt, broken, bytes.len())?,
+        Ok(()) => print_right(&out, bytes)?,
+        Err(broken) => print_broken(&out, broken, bytes.len())?,
     }
     println!(rt)
 }
@@ -83,7 +86,7 @@ fn check_arguments(rt: &HostRuntime, count: usize) -> io::Result<()> {
     Ok(())
 }
 
-// The first line that cannot be written ends it, and standard error says why.
+// The first line whose end cannot be written ends it, and standard error says why.
 fn main(rt: HostRuntime) {
     let count = host::arg_count(&rt);
     if count < 2 {

@@ -1,6 +1,7 @@
 // Checks T1, T2 and T4, and T1 cut short or changed in a byte, and prints what is found.
 #![tactic(auto)]
 
+use host::GoingOn;
 use std::io;
 
 mod sweep;
@@ -22,7 +23,11 @@ fn print_checks(rt: &impl Print) -> io::Result<()> {
     sweep::check_changes(rt, known_tables::t1())
 }
 
-// What cannot be written is not said anywhere else, and the exit status is 0.
+// What cannot be written is passed over, and the exit status is 0.
 fn main(rt: HostRuntime) {
-    let _ = print_checks(&rt);
+    let out = GoingOn {
+        rt: &rt,
+        says: false,
+    };
+    let _ = print_checks(&out);
 }

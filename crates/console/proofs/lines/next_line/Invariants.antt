@@ -2,5 +2,8 @@
 use Rattle.console.proofs.Filling.{Filling}
 use Rattle.console.proofs.lines.next_line.Given as goal
 
-abbrev pub invariant-loop : goal.invariant-loop
-invariant-loop l = Filling l.initial.piece l.initial.rest l.initial.line l.piece l.rest l.line l.length l.counter
+abbrev pub invariant-loop-turns : goal.invariant-loop-turns
+invariant-loop-turns l = Filling l.initial.piece l.initial.rest l.initial.line l.piece l.rest l.line l.length l.turns
+
+abbrev pub decreases-loop-turns : goal.decreases-loop-turns
+decreases-loop-turns l = l.turns
