@@ -27,7 +27,7 @@ is_plain b = not (eqb b 10)
 abbrev all_turns : ℕ
 all_turns = 18446744073709551615
 
--- So far: these bytes, none of them a line feed, were taken in; the line has them, and they are counted; so many turns are left.
+-- So far: these bytes, none of them a line feed, were taken in; the line has them, and they are counted.
 pub record Filling (piece₀ : List ℕ) (rest₀ : Rest) (line₀ piece : List ℕ) (rest : Rest) (line : List ℕ) (n turns : ℕ) : Type 0 where
   pub bytes : List ℕ
   pub no_feed : every is_plain bytes ≡ true
@@ -35,9 +35,9 @@ pub record Filling (piece₀ : List ℕ) (rest₀ : Rest) (line₀ piece : List 
   pub holds : line ≡ sets line₀ 0 (take line_room bytes)
   pub short : length bytes ≤ line_room → n ≡ length bytes
   pub long : line_room < length bytes → n ≡ line_room + 1
-  pub turned : length bytes + turns ≡ all_turns
+  pub turned : length bytes ≡ turns
 
-pub filling_begins : (piece : List ℕ) (rest : Rest) (line : List ℕ) → Filling piece rest line piece rest line 0 all_turns
+pub filling_begins : (piece : List ℕ) (rest : Rest) (line : List ℕ) → Filling piece rest line piece rest line 0 0
 unfolding Taken
 filling_begins piece rest line = record { bytes = []; no_feed = refl; taken = (refl, refl); holds = refl; short = λ h. refl; long = λ h. absurd (omega arith); turned = refl }
 
@@ -140,8 +140,8 @@ module _ (piece₀ : List ℕ) (rest₀ : Rest) (line₀ piece : List ℕ) (rest
     fetched : Fetched piece rest (Some (record { byte = b; rest = rest' })) piece'
     fetched = subst (λ (x : Option Byte). Fetched piece rest x piece') e g
 
-    pub filling_on : (b ≡ 10 → ⊥) → (n' : ℕ) (line' : List ℕ) → PutIs line n b n' line' → 0 < turns → Filling piece₀ rest₀ line₀ piece' rest' line' n' (turns - 1)
-    filling_on d n' line' p some_left =
+    pub filling_on : (b ≡ 10 → ⊥) → (n' : ℕ) (line' : List ℕ) → PutIs line n b n' line' → Filling piece₀ rest₀ line₀ piece' rest' line' n' (turns + 1)
+    filling_on d n' line' p =
         let j = length-append f.bytes (b ∷ []) in
         let turned = f.turned in
         record {
@@ -200,8 +200,36 @@ module _ (piece₀ : List ℕ) (rest₀ : Rest) (line₀ piece : List ℕ) (rest
   }
 
   -- no turn is left
-  pub ends_late : turns ≤ 0 → LineIs piece₀ rest₀ line₀ None piece line
-  ends_late h = let turned = f.turned in record { bytes = f.bytes; no_feed = f.no_feed; holds = f.holds; ends = inr (inr (omega arith, refl)) }
+  pub ends_late : all_turns ≤ turns → turns ≤ all_turns → LineIs piece₀ rest₀ line₀ None piece line
+  ends_late h k = let turned = f.turned in record { bytes = f.bytes; no_feed = f.no_feed; holds = f.holds; ends = inr (inr (omega arith, refl)) }
+
+-- The same, as the loop counts its turns: so many are left.
+pub record FillingLeft (piece₀ : List ℕ) (rest₀ : Rest) (line₀ piece : List ℕ) (rest : Rest) (line : List ℕ) (n turns : ℕ) : Type 0 where
+  pub filling : Filling piece₀ rest₀ line₀ piece rest line n (all_turns - turns)
+  pub turned : length filling.bytes + turns ≡ all_turns
+
+pub left_begins : (piece : List ℕ) (rest : Rest) (line : List ℕ) → FillingLeft piece rest line piece rest line 0 all_turns
+left_begins piece rest line = let filling = filling_begins piece rest line in let none = filling.turned in record { filling = filling; turned = omega arith }
+
+module _ (piece₀ : List ℕ) (rest₀ : Rest) (line₀ piece : List ℕ) (rest : Rest) (line : List ℕ) (n turns : ℕ) (f : FillingLeft piece₀ rest₀ line₀ piece rest line n turns) where
+  module _ (q : Option Byte) (piece' : List ℕ) (g : Fetched piece rest q piece') (next : Byte) (e : q ≡ Some next) where
+    pub left_on : (next.byte ≡ 10 → ⊥) → (n' : ℕ) (line' : List ℕ) → PutIs line n next.byte n' line' → 0 < turns → FillingLeft piece₀ rest₀ line₀ piece' next.rest line' n' (turns - 1)
+    left_on d n' line' p some_left =
+        let turned = f.turned in
+        let more : Filling piece₀ rest₀ line₀ piece' next.rest line' n' (all_turns - turns + 1) = filling_on piece₀ rest₀ line₀ piece rest line n (all_turns - turns) f.filling q piece' g next e d n' line' p in
+        let left : all_turns - turns + 1 ≡ all_turns - (turns - 1) = omega arith in
+        let filling : Filling piece₀ rest₀ line₀ piece' next.rest line' n' (all_turns - (turns - 1)) = subst (Filling piece₀ rest₀ line₀ piece' next.rest line' n') left more in
+        let long = filling.turned in
+        record { filling = filling; turned = omega arith }
+
+    pub left_at_feed : next.byte ≡ 10 → length line ≡ line_room → (r : Next) → r ≡ ended_line line n next.rest → LineIs piece₀ rest₀ line₀ (Some r) piece' line
+    left_at_feed = ends_at_feed piece₀ rest₀ line₀ piece rest line n (all_turns - turns) f.filling q piece' g next e
+
+  pub left_at_end : (q : Option Byte) (piece' : List ℕ) → Fetched piece rest q piece' → q ≡ None → length line ≡ line_room → (r : Option Next) → r ≡ ended_input line n rest → LineIs piece₀ rest₀ line₀ r piece' line
+  left_at_end = ends_at_end piece₀ rest₀ line₀ piece rest line n (all_turns - turns) f.filling
+
+  pub none_left : turns ≤ 0 → LineIs piece₀ rest₀ line₀ None piece line
+  none_left h = ends_late piece₀ rest₀ line₀ piece rest line n (all_turns - turns) f.filling (omega arith) (omega arith)
 
 -- What is given as a line is the bytes up to the line feed or the end of the input, without a carriage return at their end.
 abbrev IsLine : (bytes : List ℕ) (n : ℕ) → Type 0
